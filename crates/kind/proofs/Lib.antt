@@ -1,0 +1,5 @@
+pub mod Alike
+pub mod Lawful
+pub mod Lists
+pub mod Members
+pub mod Reading

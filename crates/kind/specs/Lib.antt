@@ -1,0 +1,4 @@
+pub mod Plain
+pub mod Reading
+pub mod Same
+pub mod Spelt

@@ -1,0 +1,2 @@
+// The kinds of the book.
+pub mod leads;
