@@ -1,0 +1,4 @@
+pub mod Alike
+mod Along
+mod Found
+mod Fresh
