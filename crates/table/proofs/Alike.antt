@@ -20,7 +20,7 @@ use Rattle.table.specs.Note.{combined, empty, left, hung, raised, joined}
 use Rattle.table.specs.Ask.{sure, asked-at}
 
 -- two choices by tests that agree
-cond-two : {A B : Type 0} (P : A → B → Type 0) (b c : Bool) (x y : A) (u v : B) → c ≡ b → (b ≡ true → P x u) → (b ≡ false → P y v) → P (cond c x y) (cond b u v)
+pub cond-two : {A B : Type 0} (P : A → B → Type 0) (b c : Bool) (x y : A) (u v : B) → c ≡ b → (b ≡ true → P x u) → (b ≡ false → P y v) → P (cond c x y) (cond b u v)
 cond-two P true true x y u v e p q = p refl
 cond-two P true false x y u v e p q = absurd (both-ways false refl e)
 cond-two P false true x y u v e p q = absurd (both-ways true e refl)

@@ -1,21 +1,24 @@
--- What is found from routes that read like the walks of the rules.
+-- What is found from routes that read like the walks of the rules, and what is stored of it.
 use Prim.Native.Nat.{ℕ}
 use mathlib.Core.Path.{_≡_, refl, sym, ap, _∙_}
+use mathlib.Core.Bool.{false}
 use mathlib.Core.List.{List}
 use Rattle.kind.specs.declared.Kind.{Ghosts}
 use Rattle.kind.specs.Same.{Same-moves, Same-members}
 use Rattle.kind.proofs.Lawful.{Lawful}
-use Rattle.kind.proofs.Alike.{meet-alike, shift-alike, inv-alike}
+use Rattle.kind.proofs.Alike.{meet-alike, shift-alike, inv-alike, none-alike}
 use Rattle.table.specs.declared.node.Node.{Node}
+use Rattle.table.specs.declared.notes.Meeting.{Meeting}
+use Rattle.table.specs.declared.sightings.Narrowing.{Narrowing}
 use Rattle.table.specs.declared.walks.Route.{Route}
-use Rattle.table.specs.Table.{at}
-use Rattle.table.specs.Words.{route-read}
+use Rattle.table.specs.Table.{at, settled}
+use Rattle.table.specs.Words.{table-read, route-read}
 use Rattle.table.specs.Walk.{walked}
-use Rattle.table.specs.Note.{combined, between}
-use Rattle.table.specs.See.{narrowing}
+use Rattle.table.specs.Note.{combined, empty, left, between, meeting, joined, Meets}
+use Rattle.table.specs.See.{narrowing, Narrows}
 use Rattle.table.specs.Ask.{asked-at, asked}
 use Rattle.table.specs.Look.{looked}
-use Rattle.table.proofs.Alike.{combined-alike, asked-alike}
+use Rattle.table.proofs.Alike.{combined-alike, left-alike, asked-alike, joined-alike, settled-alike}
 
 module _ {K R S : Type 0} (k : Ghosts K R S) (laws : Lawful k) (t : List (Node R S)) where
   abbrev Found : Route R → ℕ → Type 0
@@ -48,3 +51,32 @@ module _ {K R S : Type 0} (k : Ghosts K R S) (laws : Lawful k) (t : List (Node R
   looked-found w x n p e v low =
       ap (λ q. k .has (k .shift (w .relation) q) v) (held-found w x n p e)
       ∙ shift-alike k laws _ _ _ _ (relation-found w x p) (λ u small. refl) v low
+
+  -- a meeting that reads like that of the rules leaves as much, and is joined alike
+  module _ (x y : ℕ) (g : R) (m : Meeting R S) (meets : Meets k t x y g m) where
+    by-met : Same-moves k (m .by) (between k t x y g)
+    by-met = laws .word-tells _ _ (meets .by)
+
+    left-met : Same-members k (m .left) (meeting k t x y g .left)
+    left-met v low =
+        ap (λ s. k .has s v) (meets .left-is)
+        ∙ left-alike k laws t t refl (m .first) (m .second) (m .by) (between k t x y g) by-met v low
+        ∙ (λ i. k .has (left k t (meets .first i) (meets .second i) (between k t x y g)) v)
+
+    pub empty-met : empty k (m .left) ≡ empty k (meeting k t x y g .left)
+    empty-met = none-alike k laws _ _ left-met
+
+    pub joined-met : empty k (m .left) ≡ false → table-read k (joined k t m) ≡ table-read k (joined k t (meeting k t x y g))
+    joined-met some =
+        joined-alike k laws t t refl (m .first) (m .second) (m .by) (between k t x y g) (m .left) (meeting k t x y g .left) by-met left-met (sym empty-met ∙ some)
+        ∙ (λ i. table-read k (joined k t (record { first = meets .first i; second = meets .second i; by = between k t x y g; left = meeting k t x y g .left })))
+
+  -- and so is a narrowing
+  module _ (x : ℕ) (s : S) (n : Narrowing S) (narrows : Narrows k t x s n) where
+    pub empty-narrowed : empty k (n .left) ≡ empty k (narrowing k t x s .left)
+    empty-narrowed = none-alike k laws _ _ (narrows .left)
+
+    pub settled-narrowed : empty k (n .left) ≡ false → table-read k (settled k t (n .reference) (n .left)) ≡ table-read k (settled k t (narrowing k t x s .reference) (narrowing k t x s .left))
+    settled-narrowed some =
+        settled-alike k laws t t refl (n .reference) (n .left) (narrowing k t x s .left) (narrows .left) (sym empty-narrowed ∙ some)
+        ∙ (λ i. table-read k (settled k t (narrows .reference i) (narrowing k t x s .left)))

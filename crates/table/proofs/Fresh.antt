@@ -5,8 +5,8 @@ use mathlib.Core.List.{List, [], _∷_, _++_, append-assoc}
 use mathlib.Core.Logic.{⊎-elim}
 use native.Mathlib.Omega.{arith}
 use native.Mathlib.Nat.{add-zero, zero-add}
-use lib.ListN.{length, set, drop}
-use Rattle.std.proofs.shelf.Lists.{set-at, drop-more, drop-all}
+use lib.ListN.{length, set, take, drop}
+use Rattle.std.proofs.shelf.Lists.{append-nil, set-at, take-all, take-at, drop-more, drop-all, drop-at}
 use Rattle.std.proofs.shelf.Tests.{cases-lt}
 use Rattle.kind.specs.declared.Kind.{Ghosts}
 use Rattle.table.specs.declared.node.Node.{Node}
@@ -32,8 +32,33 @@ module _ {K R S : Type 0} (k : Ghosts K R S) where
       ∙ sym (append-assoc (fresh-from k 0 i) (fresh k i ∷ []) (drop (i + 1) t))
       ∙ ap (λ ys. ys ++ drop (i + 1) t) (ap (λ y. fresh-from k 0 i ++ (fresh k y ∷ [])) (sym (zero-add i)) ∙ sym (fresh-more 0 i))
 
-  pub renewed-all : (t u : List (Node R S)) (i : ℕ) → u ≡ fresh-from k 0 i ++ drop i t → i ≡ min (length t) 256 → u ≡ fresh-from k 0 (min (length t) 256) ++ drop 256 t
-  renewed-all t u i e is =
-      e ∙ (λ j. fresh-from k 0 (is j) ++ drop i t)
-      ∙ ap (λ r. fresh-from k 0 (min (length t) 256) ++ r)
-      (⊎-elim (λ h. drop-all i t (omega arith) ∙ sym (drop-all 256 t (omega arith))) (λ h. ap (λ m. drop m t) (let q : i ≡ 256 = omega arith in q)) (cases-lt (length t) 256))
+  -- the first n points of a table made new
+  module _ (n : ℕ) (t : List (Node R S)) where
+    made : List (Node R S)
+    made = fresh-from k 0 (min (length t) n)
+
+    made-length : length made ≡ min (length t) n
+    unfolding made
+    made-length = fresh-length 0 (min (length t) n)
+
+    pub renewed-all : (u : List (Node R S)) (i : ℕ) → u ≡ fresh-from k 0 i ++ drop i t → i ≡ min (length t) n → u ≡ fresh-from k 0 (min (length t) n) ++ drop n t
+    renewed-all u i e is =
+        e ∙ (λ j. fresh-from k 0 (is j) ++ drop i t)
+        ∙ ap (λ r. fresh-from k 0 (min (length t) n) ++ r)
+        (⊎-elim (λ h. drop-all i t (omega arith) ∙ sym (drop-all n t (omega arith))) (λ h. ap (λ m. drop m t) (let q : i ≡ n = omega arith in q)) (cases-lt (length t) n))
+
+    pub fresh-front : take n (fresh-from k 0 (min (length t) n) ++ drop n t) ≡ fresh-from k 0 (min (length t) n)
+    unfolding made
+    fresh-front =
+        ⊎-elim
+        (λ h. ap (λ r. take n (made ++ r)) (drop-all n t (omega arith)) ∙ ap (take n) (append-nil made) ∙ take-all n made (omega (arith, made-length)))
+        (λ h. take-at made _ n (made-length ∙ omega arith))
+        (cases-lt (length t) n)
+
+    pub fresh-past : drop n (fresh-from k 0 (min (length t) n) ++ drop n t) ≡ drop n t
+    unfolding made
+    fresh-past =
+        ⊎-elim
+        (λ h. let none = drop-all n t (omega arith) in ap (λ r. drop n (made ++ r)) none ∙ ap (drop n) (append-nil made) ∙ drop-all n made (omega (arith, made-length)) ∙ sym none)
+        (λ h. drop-at made _ n (made-length ∙ omega arith))
+        (cases-lt (length t) n)

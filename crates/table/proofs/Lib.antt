@@ -1,4 +1,5 @@
 pub mod Alike
 mod Along
-mod Found
-mod Fresh
+pub mod Found
+pub mod Fresh
+pub mod Front

@@ -12,6 +12,7 @@ mod walks;
 pub use combination::combine;
 pub use looks::look;
 pub use node::Node;
+pub use node::NodeClone;
 pub use notes::Meeting;
 pub use notes::is_empty;
 pub use notes::join;
