@@ -19,6 +19,9 @@ mod word;
 
 pub use bytes::same_bytes;
 pub use fault::WordFault;
+pub use fault::WordFaultDebug;
+pub use fault::WordFaultEq;
+pub use fault::WordFaultPartialEq;
 pub use word::Word;
 
 // A kind is a type that stands for it. What the kind means is said by ghost members, each law has a name of its own,

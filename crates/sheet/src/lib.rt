@@ -6,6 +6,10 @@ mod refusal;
 mod sheet;
 
 pub use entry::Entry;
+pub use entry::EntryClone;
 pub use opening::open;
 pub use refusal::Refusal;
+pub use refusal::RefusalDebug;
+pub use refusal::RefusalEq;
+pub use refusal::RefusalPartialEq;
 pub use sheet::Sheet;
