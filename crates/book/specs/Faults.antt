@@ -2,8 +2,11 @@
 use Prim.Native.Nat.{ℕ}
 use Rattle.kind.specs.declared.fault.WordFault.{WordFault}
 use Rattle.kind.specs.declared.fault.WordFault.the-variants.{NotAWord}
+use Rattle.sheet.specs.Refusals.{refusal-number}
 use Rattle.book.specs.declared.fault.LineFault.{LineFault}
 use Rattle.book.specs.declared.fault.LineFault.the-variants.{Long, Shape, Point, Word}
+use Rattle.book.specs.declared.fault.BookFault.{BookFault}
+use Rattle.book.specs.declared.fault.BookFault.the-variants.{Read, Call}
 
 abbrev pub word-number : WordFault → ℕ
 word-number NotAWord = 4
@@ -13,3 +16,7 @@ line-number Long = 1
 line-number Shape = 2
 line-number Point = 3
 line-number (Word w) = word-number w
+
+abbrev pub book-number : BookFault → ℕ
+book-number (Read l) = line-number l
+book-number (Call r) = refusal-number r

@@ -1,5 +1,7 @@
+pub mod Answers
 pub mod Faults
 pub mod Fields
 pub mod Parts
 pub mod Point
+pub mod Requests
 pub mod Said

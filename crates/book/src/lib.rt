@@ -1,11 +1,29 @@
 // A book of sheets, and the lines that it is asked in.
+mod answer;
+mod call;
 mod fault;
 mod fields;
 mod line;
+mod number;
 mod parts;
 mod point;
 
+pub use answer::Reply;
+pub use answer::ReplyDebug;
+pub use answer::ReplyEq;
+pub use answer::ReplyPartialEq;
+pub use call::Call;
+pub use call::read_call;
+pub use fault::BookFault;
+pub use fault::BookFaultDebug;
+pub use fault::BookFaultEq;
+pub use fault::BookFaultPartialEq;
+pub use fault::BookFromLine;
+pub use fault::BookFromRefusal;
 pub use fault::LineFault;
+pub use fault::LineFaultDebug;
+pub use fault::LineFaultEq;
+pub use fault::LineFaultPartialEq;
 pub use fault::LineFromWord;
 pub use line::Line;
 pub use line::Request;
