@@ -1,2 +1,3 @@
+mod Appended
 mod Cuts
-pub mod Points
+mod Points

@@ -1,5 +1,4 @@
 // What is wrong with a line, and what a book refuses it for. A fault keeps its number on the way up.
-ghost use Prim.Native.Nat.{ℕ};
 ghost use mathlib.Core.Path.{_≡_};
 ghost use Rattle.book.specs.declared.fault.LineFault.the-variants.{Word};
 ghost use Rattle.book.specs.declared.fault.BookFault.the-variants.{Read, Call};

@@ -1,17 +1,21 @@
 // A book of sheets, and the lines that it is asked in.
 mod answer;
+mod book;
 mod call;
 mod fault;
 mod fields;
 mod line;
+mod memory;
 mod number;
 mod parts;
 mod point;
+mod printing;
 
 pub use answer::Reply;
 pub use answer::ReplyDebug;
 pub use answer::ReplyEq;
 pub use answer::ReplyPartialEq;
+pub use book::Book;
 pub use call::Call;
 pub use call::read_call;
 pub use fault::BookFault;
@@ -32,5 +36,7 @@ pub use line::SheetNameDebug;
 pub use line::SheetNameEq;
 pub use line::SheetNamePartialEq;
 pub use line::read_line;
-pub use parts::cut;
+pub use memory::Memory;
+pub use memory::SheetMemory;
 pub use point::read_point;
+pub use printing::print_reply;

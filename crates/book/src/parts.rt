@@ -4,7 +4,7 @@ ghost use mathlib.Core.List.{_∷_};
 ghost use Rattle.book.specs.Parts.{parts, parts-left};
 
 // The part before the first such byte, and what follows that byte, if it is there.
-pub fn cut<'a>(text: &'a [u8], separator: u8) -> (&'a [u8], Option<&'a [u8]>)
+pub(crate) fn cut<'a>(text: &'a [u8], separator: u8) -> (&'a [u8], Option<&'a [u8]>)
     ensures { λ r. ⌜ parts separator (now (text .entry)) ≡ now (r .0) ∷ parts-left separator (r .1) ⌝ }
 {
     for (i, b) in text.iter().enumerate() {
