@@ -25,7 +25,10 @@ pub enum Reply {
     Answered(Answer),
 }
 
-fn take<K: Kind>(sheet: &mut Sheet<'_, K>, call: Call<K::Relation, K::Set>) -> Result<Reply, Refusal>
+fn take<K: Kind>(
+    sheet: &mut Sheet<'_, K>,
+    call: Call<K::Relation, K::Set>,
+) -> Result<Reply, Refusal>
     ensures step { λ r. ⌜ Step K·Kind (view (now (sheet .entry))) (call-meant call) (called-outcome r) (view (now (sheet .exit))) ⌝ }
     ensures unchanged { λ r. ⌜ Refused-unchanged r (now (sheet .entry)) (now (sheet .exit)) ⌝ }
     ensures frame { λ _. ⌜ Frame (now (sheet .entry)) (now (sheet .exit)) ⌝ }

@@ -59,7 +59,11 @@ fn push_told(out: &mut Vec<u8>, reply: Result<Reply, BookFault>) -> Result<(), A
 }
 
 // Adds the line that is printed for a reply to the line of that number.
-pub fn print_reply(out: &mut Vec<u8>, number: u32, reply: Result<Reply, BookFault>) -> Result<(), AllocError>
+pub fn print_reply(
+    out: &mut Vec<u8>,
+    number: u32,
+    reply: Result<Reply, BookFault>,
+) -> Result<(), AllocError>
     ensures { λ r. ⌜ made r (λ _. vec-items (now (out .exit)) ≡ vec-items (now (out .entry)) ++ printed number (replied reply)) ⌝ }
 {
     push_number(out, number)?;

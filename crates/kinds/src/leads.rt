@@ -21,30 +21,69 @@ pub struct Ends {
     pub minus: bool,
 }
 
+impl Ends {
+    pub const NONE: Ends = Ends {
+        plus: false,
+        minus: false,
+    };
+
+    pub const PLUS: Ends = Ends {
+        plus: true,
+        minus: false,
+    };
+
+    pub const MINUS: Ends = Ends {
+        plus: false,
+        minus: true,
+    };
+
+    pub const ANY: Ends = Ends {
+        plus: true,
+        minus: true,
+    };
+}
+
 pub struct Leads;
 
 pub impl Kind for Leads as LeadsKind {
     type Relation = Turn;
+
     type Set = Ends;
 
     const W: usize = 7;
 
     ghost span = { 2 };
+
     ghost act = { turn-act };
+
     ghost has = { ends-has };
+
     ghost unit = { Same };
+
     ghost comp = { turn-comp };
+
     ghost inv = { λ g. g };
+
     ghost full = { ends true true };
+
     ghost meet = { ends-meet };
+
     ghost shift = { ends-shift };
+
     ghost fixed = { ends-fixed };
+
     ghost inside = { ends-inside };
+
     ghost count = { ends-count };
+
     ghost word = { turn-word };
+
     ghost label = { ends-label };
+
     ghost wide = { 7 };
+
     ghost named = { turn-named };
+
     ghost labelled = { ends-labelled };
 
     fn width() -> usize {
@@ -68,7 +107,7 @@ pub impl Kind for Leads as LeadsKind {
     }
 
     fn all() -> Ends {
-        Ends { plus: true, minus: true }
+        Ends::ANY
     }
 
     fn common(s: Ends, t: Ends) -> Ends {
@@ -81,14 +120,17 @@ pub impl Kind for Leads as LeadsKind {
     fn moved(g: Turn, s: Ends) -> Ends {
         match g {
             Turn::Same => s,
-            Turn::Crossed => Ends { plus: s.minus, minus: s.plus },
+            Turn::Crossed => Ends {
+                plus: s.minus,
+                minus: s.plus,
+            },
         }
     }
 
     fn still(g: Turn) -> Ends {
         match g {
-            Turn::Same => Ends { plus: true, minus: true },
-            Turn::Crossed => Ends { plus: false, minus: false },
+            Turn::Same => Ends::ANY,
+            Turn::Crossed => Ends::NONE,
         }
     }
 
@@ -116,13 +158,13 @@ pub impl Kind for Leads as LeadsKind {
 
     fn read_set(field: &[u8]) -> Result<Ends, WordFault> {
         if same_bytes(field, b"none") {
-            Ok(Ends { plus: false, minus: false })
+            Ok(Ends::NONE)
         } else if same_bytes(field, b"plus") {
-            Ok(Ends { plus: true, minus: false })
+            Ok(Ends::PLUS)
         } else if same_bytes(field, b"minus") {
-            Ok(Ends { plus: false, minus: true })
+            Ok(Ends::MINUS)
         } else if same_bytes(field, b"any") {
-            Ok(Ends { plus: true, minus: true })
+            Ok(Ends::ANY)
         } else {
             Err(WordFault::NotAWord)
         }

@@ -79,10 +79,10 @@ module _ {K R S : Type 0} (k : Ghosts K R S) (laws : Lawful k) where
         let word = laws .word-told h g same in
         map-set (node-read k) _ upper _
         ∙ (λ i. set
-          (put-alike lower (record { link = upper; relation = h; rank = at k u lower .rank; set = at k u lower .set })
-            (record { link = upper; relation = g; rank = at k t lower .rank; set = at k t lower .set })
-            (λ j. record { link = upper; relation = word j; rank = below j .rank; set = below j .set }) i)
-          upper (record { link = above i .link; relation = above i .relation; rank = rank i; set = words i }))
+        (put-alike lower (record { link = upper; relation = h; rank = at k u lower .rank; set = at k u lower .set })
+        (record { link = upper; relation = g; rank = at k t lower .rank; set = at k t lower .set })
+        (λ j. record { link = upper; relation = word j; rank = below j .rank; set = below j .set }) i)
+        upper (record { link = above i .link; relation = above i .relation; rank = rank i; set = words i }))
         ∙ sym (map-set (node-read k) _ upper _)
 
     pub joined-alike : (r1 r2 : ℕ) (h g : R) (s q : S) → Same-moves k h g → Same-members k s q → empty k q ≡ false
@@ -91,6 +91,6 @@ module _ {K R S : Type 0} (k : Ghosts K R S) (laws : Lawful k) where
         cond-two (λ a b. table-read k a ≡ table-read k b) (eqb r1 r2) (eqb r1 r2) _ _ _ _ refl
         (λ e. settled-alike r1 s q p some)
         (λ e. cond-two (λ a b. table-read k a ≡ table-read k b) _ _ _ _ _ _ (λ i. leb (rank-alike r2 i) (rank-alike r1 i))
-          (λ f. hung-alike r2 r1 _ _ _ _ s q (inv-alike k laws h g same) (λ i. max (rank-alike r1 i) (min (rank-alike r2 i + 1) 255)) (label-alike k laws s q p some))
-          (λ f. hung-alike r1 r2 h g _ _ _ _ same (rank-alike r2)
-            (label-alike k laws _ _ (shift-alike k laws _ _ s q (inv-alike k laws h g same) p) (shift-some k laws (k .inv g) q some))))
+        (λ f. hung-alike r2 r1 _ _ _ _ s q (inv-alike k laws h g same) (λ i. max (rank-alike r1 i) (min (rank-alike r2 i + 1) 255)) (label-alike k laws s q p some))
+        (λ f. hung-alike r1 r2 h g _ _ _ _ same (rank-alike r2)
+        (label-alike k laws _ _ (shift-alike k laws _ _ s q (inv-alike k laws h g same) p) (shift-some k laws (k .inv g) q some))))

@@ -57,13 +57,13 @@ module _ {K R S : Type 0} (k : Ghosts K R S) (laws : Lawful k) (t : List (Node R
       record {
         ends = along .ends ∙ ap (λ w. w .reference) step ∙ ap (λ y. walk-along k t (d - 1) y .reference) (sym link);
         moves = λ v low.
-          along .moves v low ∙ ap (λ w. k .act (k .comp c (w .relation)) v) step
-          ∙ assoc-alike k laws c (at k t now .relation) _ v low
-          ∙ (λ i. k .act (k .comp (sym made-of i) (walk-along k t (d - 1) (sym link i) .relation)) v);
+            along .moves v low ∙ ap (λ w. k .act (k .comp c (w .relation)) v) step
+            ∙ assoc-alike k laws c (at k t now .relation) _ v low
+            ∙ (λ i. k .act (k .comp (sym made-of i) (walk-along k t (d - 1) (sym link i) .relation)) v);
         carries = λ a keeps.
-          along .carries a keeps ∙ ap (k .act c) (keeps .kept now (linked-on k t now leaves))
-          ∙ sym (laws .comp-acts c (at k t now .relation) _ (keeps .low _))
-          ∙ (λ i. k .act (sym made-of i) (a (sym link i)));
+            along .carries a keeps ∙ ap (k .act c) (keeps .kept now (linked-on k t now leaves))
+            ∙ sym (laws .comp-acts c (at k t now .relation) _ (keeps .low _))
+            ∙ (λ i. k .act (sym made-of i) (a (sym link i)));
       }
 
   -- where there is no link to follow, or none left

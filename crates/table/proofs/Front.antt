@@ -30,7 +30,7 @@ module _ {K R S : Type 0} (k : Ghosts K R S) (n : ℕ) (t : List (Node R S)) whe
       let top : Node R S = record { link = at k t upper .link; relation = at k t upper .relation; rank = p; set = s } in
       take-set-lt n _ upper top high ∙ ap (λ u. set u upper top) (take-set-lt n t lower _ low)
       ∙ (λ i. set (set (take n t) lower (record { link = upper; relation = g; rank = below i .rank; set = below i .set }))
-        upper (record { link = above i .link; relation = above i .relation; rank = same i; set = s }))
+      upper (record { link = above i .link; relation = above i .relation; rank = same i; set = s }))
 
   pub joined-front : (m : Meeting R S) → m .first < n → m .second < n → take n (joined k t m) ≡ joined k (take n t) m
   joined-front m low high =
@@ -39,8 +39,8 @@ module _ {K R S : Type 0} (k : Ghosts K R S) (n : ℕ) (t : List (Node R S)) whe
       cond-two (λ a b. take n a ≡ b) (eqb (m .first) (m .second)) (eqb (m .first) (m .second)) _ _ _ _ refl
       (λ e. settled-front (m .first) (m .left) low)
       (λ e. cond-two (λ a b. take n a ≡ b) _ _ _ _ _ _ (λ i. leb (second i) (first i))
-        (λ f. hung-front (m .second) (m .first) _ _ _ (m .left) high low (λ i. max (first i) (min (second i + 1) 255)))
-        (λ f. hung-front (m .first) (m .second) _ _ _ _ low high second))
+      (λ f. hung-front (m .second) (m .first) _ _ _ (m .left) high low (λ i. max (first i) (min (second i + 1) 255)))
+      (λ f. hung-front (m .first) (m .second) _ _ _ _ low high second))
 
   -- what lies past the front stays
   pub settled-past : (r : ℕ) (s : S) → r < n → drop n (settled k t r s) ≡ drop n t

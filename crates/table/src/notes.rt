@@ -24,7 +24,12 @@ pub fn is_empty<K: Kind>(s: K::Set) -> bool
     K::tally(s) == 0
 }
 
-pub(crate) fn left_to_first<K: Kind>(nodes: &[Node<K::Relation, K::Set>], r1: u8, r2: u8, h: K::Relation) -> K::Set
+pub(crate) fn left_to_first<K: Kind>(
+    nodes: &[Node<K::Relation, K::Set>],
+    r1: u8,
+    r2: u8,
+    h: K::Relation,
+) -> K::Set
     ensures { λ r. ⌜ r ≡ left K·Kind (now (nodes .entry)) r1 r2 h ⌝ }
 {
     let first = load::<K>(nodes, r1);
@@ -36,7 +41,12 @@ pub(crate) fn left_to_first<K: Kind>(nodes: &[Node<K::Relation, K::Set>], r1: u8
 }
 
 // Where x = g·y is noted.
-pub fn meet<K: Kind>(nodes: &[Node<K::Relation, K::Set>], x: u8, y: u8, g: K::Relation) -> Meeting<K::Relation, K::Set>
+pub fn meet<K: Kind>(
+    nodes: &[Node<K::Relation, K::Set>],
+    x: u8,
+    y: u8,
+    g: K::Relation,
+) -> Meeting<K::Relation, K::Set>
     ensures { λ r. ⌜ Meets K·Kind (now (nodes .entry)) x y g r ⌝ }
 {
     let first = walk::<K>(nodes, x);
@@ -52,7 +62,14 @@ pub fn meet<K: Kind>(nodes: &[Node<K::Relation, K::Set>], x: u8, y: u8, g: K::Re
 }
 
 // Links the reference `lower` to the reference `upper`, which gets a rank and a set.
-fn hang<K: Kind>(nodes: &mut [Node<K::Relation, K::Set>], lower: u8, upper: u8, g: K::Relation, rank: u8, set: K::Set)
+fn hang<K: Kind>(
+    nodes: &mut [Node<K::Relation, K::Set>],
+    lower: u8,
+    upper: u8,
+    g: K::Relation,
+    rank: u8,
+    set: K::Set,
+)
     ensures { λ _. ⌜ now (nodes .exit) ≡ hung K·Kind (now (nodes .entry)) lower upper g rank set ⌝ }
 {
     let below = load::<K>(nodes, lower);
@@ -95,5 +112,12 @@ pub fn join<K: Kind>(nodes: &mut [Node<K::Relation, K::Set>], m: Meeting<K::Rela
         hang::<K>(nodes, m.second, m.first, back, rank, m.left);
         return;
     }
-    hang::<K>(nodes, m.first, m.second, m.by, second, K::moved(back, m.left));
+    hang::<K>(
+        nodes,
+        m.first,
+        m.second,
+        m.by,
+        second,
+        K::moved(back, m.left),
+    );
 }

@@ -28,7 +28,11 @@ pub fn load<K: Kind>(nodes: &[Node<K::Relation, K::Set>], x: u8) -> Node<K::Rela
     new_node::<K>(x)
 }
 
-pub fn store<K: Kind>(nodes: &mut [Node<K::Relation, K::Set>], x: u8, node: Node<K::Relation, K::Set>)
+pub fn store<K: Kind>(
+    nodes: &mut [Node<K::Relation, K::Set>],
+    x: u8,
+    node: Node<K::Relation, K::Set>,
+)
     ensures { λ _. ⌜ now (nodes .exit) ≡ set (now (nodes .entry)) x node ⌝ }
 {
     let i = x as usize;

@@ -30,5 +30,8 @@ pub fn walk<K: Kind>(nodes: &[Node<K::Relation, K::Set>], x: u8) -> Route<K::Rel
         reference = node.link;
         depth -= 1;
     }
-    Route { reference, relation }
+    Route {
+        reference,
+        relation,
+    }
 }

@@ -12,5 +12,5 @@ returns g c =
     let laws = lawful (g .K·Kind·met) in
     let t = c .args .nodes .now in
     let same : Same-members k (c .moved .result) (looked k t (c .args .x)) =
-      λ v low. ap (λ s. k .has s v) (c .moved .ensures) ∙ looked-found k laws t (c .walk-route .result) _ (c .load .result) (c .walk-route .ensures .walked) (c .load .ensures) v low in
+    λ v low. ap (λ s. k .has s v) (c .moved .ensures) ∙ looked-found k laws t (c .walk-route .result) _ (c .load .result) (c .walk-route .ensures .walked) (c .load .ensures) v low in
     record { members = same; label = λ some. label-alike k laws _ _ same (sym (none-alike k laws _ _ same) ∙ some) }

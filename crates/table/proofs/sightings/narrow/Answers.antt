@@ -10,5 +10,5 @@ returns g c =
     record {
       reference = ap (λ w. w .reference) (c .walk-route .ensures .walked);
       left = λ v low. ap (λ s. k .has s v) made
-        ∙ left-found k (lawful (g .K·Kind·met)) (c .args .nodes .now) (c .walk-route .result) _ (c .args .s) (c .load-node .result) (c .walk-route .ensures .walked) (c .load-node .ensures) v low;
+          ∙ left-found k (lawful (g .K·Kind·met)) (c .args .nodes .now) (c .walk-route .result) _ (c .args .s) (c .load-node .result) (c .walk-route .ensures .walked) (c .load-node .ensures) v low;
     }

@@ -18,8 +18,8 @@ returns g c =
     let laws = lawful (g .K·Kind·met) in
     record {
       walked = elim (c .loop-depth-test .came) [
-          else-loop-depth-test w ↦ spent k laws _ _ _ _ _ (c .loop-depth .inv .0) (omega (arith, w .loop-depth-test .left))
+        | else-loop-depth-test w ↦ spent k laws _ _ _ _ _ (c .loop-depth .inv .0) (omega (arith, w .loop-depth-test .left))
         | then-loop-depth-test·then-node-reference w ↦ stops k laws _ _ _ _ _ _ (c .loop-depth .inv .0) (w .load-node .ensures) (w .if-node-reference .taken)
-        ];
+      ];
       means = c .loop-depth .inv .0 .carries;
     }

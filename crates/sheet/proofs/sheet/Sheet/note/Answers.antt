@@ -16,8 +16,8 @@ returns g c =
     let high : m .second < 256 = omega (arith, c .meeting-meeting .ok) in
     record {
       step = note-accepted k (s .number) (min (length (s .log .now)) 512 / 2) (lawful (g .K·Kind·met)) (take 256 (s .nodes .now)) (c .args .x) (c .args .y) (c .args .g) m (c .meeting-meeting .ensures)
-        (sym (c .has .ensures) ∙ c .if-not-has .left, sym (c .has-else-not-has .ensures) ∙ c .if-not-has-2 .left)
-        _ (sym (c .if-is-empty .ensures tt)) (ap (take 256) (c .join .ensures) ∙ joined-front k 256 _ m low high);
+          (sym (c .has .ensures) ∙ c .if-not-has .left, sym (c .has-else-not-has .ensures) ∙ c .if-not-has-2 .left)
+          _ (sym (c .if-is-empty .ensures tt)) (ap (take 256) (c .join .ensures) ∙ joined-front k 256 _ m low high);
       unchanged = tt;
       frame = record {
         nodes-lent = refl;
@@ -34,8 +34,8 @@ returns-then-is-empty g c =
     let s = c .args .self .now in
     record {
       step = note-contrary k (s .number) (min (length (s .log .now)) 512 / 2) (lawful (g .K·Kind·met)) (take 256 (s .nodes .now)) (c .args .x) (c .args .y) (c .args .g) _ (c .meeting-meeting .ensures)
-        (sym (c .has .ensures) ∙ c .if-not-has .left, sym (c .has-else-not-has .ensures) ∙ c .if-not-has-2 .left)
-        (sym (c .if-is-empty .ensures tt));
+          (sym (c .has .ensures) ∙ c .if-not-has .left, sym (c .has-else-not-has .ensures) ∙ c .if-not-has-2 .left)
+          (sym (c .if-is-empty .ensures tt));
       unchanged = (refl, refl);
       frame = record { nodes-lent = refl; log-lent = refl; nodes-past = refl; log-past = refl; log-idle = λ _. refl };
     }

@@ -16,7 +16,7 @@ returns g c =
     let low : n .reference < 256 = omega (arith, c .narrowing-narrowing .ok) in
     record {
       step = see-accepted k (s .number) (min (length (s .log .now)) 512 / 2) (lawful (g .K·Kind·met)) (take 256 (s .nodes .now)) (c .args .x) (c .args .s) n (c .narrowing-narrowing .ensures)
-        (on, on) _ (sym (c .if-is-empty .ensures tt)) (ap (take 256) (c .settle .ensures) ∙ settled-front k 256 _ (n .reference) (n .left) low);
+          (on, on) _ (sym (c .if-is-empty .ensures tt)) (ap (take 256) (c .settle .ensures) ∙ settled-front k 256 _ (n .reference) (n .left) low);
       unchanged = tt;
       frame = record {
         nodes-lent = refl;
@@ -34,7 +34,7 @@ returns-then-is-empty g c =
     let on = sym (c .has .ensures) ∙ c .if-not-has .left in
     record {
       step = see-contrary k (s .number) (min (length (s .log .now)) 512 / 2) (lawful (g .K·Kind·met)) (take 256 (s .nodes .now)) (c .args .x) (c .args .s) _ (c .narrowing-narrowing .ensures)
-        (on, on) (sym (c .if-is-empty .ensures tt));
+          (on, on) (sym (c .if-is-empty .ensures tt));
       unchanged = (refl, refl);
       frame = record { nodes-lent = refl; log-lent = refl; nodes-past = refl; log-past = refl; log-idle = λ _. refl };
     }

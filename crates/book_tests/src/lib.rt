@@ -1,0 +1,101 @@
+// Examples of lines and what the book answers.
+#[cfg(test)]
+mod tests {
+    use book::Book;
+    use book::BookFault;
+    use book::BookFaultDebug;
+    use book::BookFaultPartialEq;
+    use book::LineFault;
+    use book::LineFaultDebug;
+    use book::LineFaultPartialEq;
+    use book::Memory;
+    use book::Reply;
+    use book::ReplyDebug;
+    use book::ReplyPartialEq;
+    use book::print_reply;
+    use sheet::Refusal;
+    use sheet::RefusalDebug;
+    use sheet::RefusalPartialEq;
+    use std::test::*;
+    use table::Answer;
+    use table::AnswerDebug;
+    use table::AnswerPartialEq;
+
+    // What a new book prints for a line, by the fault's number; 0 where it is not refused.
+    fn refusal(line: &[u8]) -> u8 {
+        let mut memory = Memory::new();
+        let mut book = Book::open(&mut memory);
+        match book.enter(line) {
+            Ok(_) => 0,
+            Err(fault) => fault.number(),
+        }
+    }
+
+    #[test]
+    fn points() -> Result<(), Fail> {
+        check_eq(refusal(b"leads\tnote\t63\t0\tsame"), 0)?;
+        check_eq(refusal(b"leads\tnote\t64\t0\tsame"), 5)?;
+        check_eq(refusal(b"leads\tnote\t0\t64\tsame"), 5)?;
+        check_eq(refusal(b"leads\tsee\t255\tplus"), 5)?;
+        check_eq(refusal(b"leads\tsee\t256\tplus"), 3)?;
+        check_eq(refusal(b"leads\tsee\t00\tplus"), 3)?;
+        check_eq(refusal(b"leads\tsee\t+1\tplus"), 3)?;
+        check_eq(refusal(b"leads\tsee\t\tplus"), 3)
+    }
+
+    #[test]
+    fn shapes() -> Result<(), Fail> {
+        check_eq(refusal(b""), 2)?;
+        check_eq(refusal(b"leads"), 2)?;
+        check_eq(refusal(b"leads\tsee\t0\tplus\t"), 2)?;
+        check_eq(refusal(b"leads\tnote\t0\t1"), 2)?;
+        check_eq(refusal(b"leads\ttell\t0\t1\tsame"), 2)?;
+        check_eq(refusal(b"wires\tnote\t0\t1\tsame"), 2)?;
+        check_eq(refusal(b"leads see 0 plus"), 2)
+    }
+
+    #[test]
+    fn words() -> Result<(), Fail> {
+        check_eq(refusal(b"leads\tnote\t0\t1\tSame"), 4)?;
+        check_eq(refusal(b"leads\tnote\t0\t1\tplus"), 4)?;
+        check_eq(refusal(b"leads\tsee\t0\tcrossed"), 4)?;
+        check_eq(refusal(b"leads\tsee\t64\tminu"), 4)?;
+        check_eq(refusal(b"leads\tsee\t256\tminu"), 3)?;
+        check_eq(refusal(b"leads\tsee\t0\tany"), 0)?;
+        check_eq(refusal(b"leads\tsee\t0\tnone"), 6)
+    }
+
+    #[test]
+    fn lengths() -> Result<(), Fail> {
+        let long = [b'x'; 65];
+        check_eq(refusal(&long), 1)?;
+        check_eq(refusal(&long[0..64]), 2)
+    }
+
+    #[test]
+    fn one_loop() -> Result<(), Fail> {
+        let mut memory = Memory::new();
+        let mut book = Book::open(&mut memory);
+        check_eq(book.enter(b"leads\tnote\t0\t1\tcrossed"), Ok(Reply::Accepted))?;
+        check_eq(book.enter(b"leads\task\t1\t0\tsame"), Ok(Reply::Answered(Answer::Barred)))?;
+        check_eq(book.enter(b"leads\task\t1\t2\tsame"), Ok(Reply::Answered(Answer::Open)))?;
+        check_eq(book.enter(b"leads\tnote\t1\t0\tsame"), Err(BookFault::Call(Refusal::Contrary)))?;
+        check_eq(book.enter(b"leads\tsee\t0\tplus"), Ok(Reply::Accepted))?;
+        check_eq(book.enter(b"leads\tsee\t1\tplus"), Err(BookFault::Call(Refusal::Contrary)))?;
+        check_eq(book.enter(b"leads\task\t0\t1\tcrossed"), Ok(Reply::Answered(Answer::Holds)))?;
+        check_eq(book.enter(b"leads\tlist"), Err(BookFault::Read(LineFault::Shape)))
+    }
+
+    #[test]
+    fn pinned_points(rt: LibcRuntime) -> Result<(), Fail> {
+        let mut memory = Memory::new();
+        let mut book = Book::open(&mut memory);
+        let mut out = Vec::new(rt.alloc());
+        print_reply(&mut out, 1, book.enter(b"leads\task\t0\t1\tsame"))?;
+        print_reply(&mut out, 2, book.enter(b"leads\tsee\t0\tplus"))?;
+        print_reply(&mut out, 3, book.enter(b"leads\tsee\t1\tplus"))?;
+        print_reply(&mut out, 10, book.enter(b"leads\task\t0\t1\tsame"))?;
+        print_reply(&mut out, 65536, book.enter(b"leads\tsee\t1\tminus"))?;
+        check(out.as_slice() == b"1\topen\n2\tok\n3\tok\n10\tholds\n65536\trefused\t6\n")
+    }
+}
