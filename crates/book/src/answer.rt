@@ -49,7 +49,7 @@ fn take<K: Kind>(
     }
 }
 
-pub fn answer<K: Kind>(sheet: &mut Sheet<'_, K>, line: Line<'_>) -> Result<Reply, BookFault>
+pub(crate) fn answer<K: Kind>(sheet: &mut Sheet<'_, K>, line: Line<'_>) -> Result<Reply, BookFault>
     ensures step { λ r. ⌜ Line-step K·Kind (view (now (sheet .entry))) (said-of (line .entry)) (replied r) (view (now (sheet .exit))) ⌝ }
     ensures unchanged { λ r. ⌜ Refused-unchanged r (now (sheet .entry)) (now (sheet .exit)) ⌝ }
     ensures frame { λ _. ⌜ Frame (now (sheet .entry)) (now (sheet .exit)) ⌝ }

@@ -1,10 +1,12 @@
-use Prim.Native.Nat.{_/_, _<_, min}
-use mathlib.Core.Path.{_≡_, refl, sym, ap, _∙_}
+use Prim.Native.Nat.{_<_}
+use mathlib.Core.Path.{refl, sym, ap, _∙_}
 use native.Mathlib.Omega.{arith}
-use lib.ListN.{length, take, drop}
+use lib.ListN.{take, drop}
 use Rattle.kind.proofs.Lawful.{lawful}
 use Rattle.table.proofs.Front.{joined-front, joined-past}
+use Rattle.sheet.specs.View.{view}
 use Rattle.sheet.proofs.Entering.{note-accepted, note-contrary}
+use Rattle.sheet.proofs.Framing.{log-kept, all-kept}
 use Rattle.sheet.proofs.sheet.Sheet.note.Needs as need
 
 pub returns : need.returns
@@ -14,28 +16,23 @@ returns g c =
     let m = c .meeting-meeting .result in
     let low : m .first < 256 = omega (arith, c .meeting-meeting .ok) in
     let high : m .second < 256 = omega (arith, c .meeting-meeting .ok) in
+    let on-x = sym (c .has .ensures) ∙ c .if-not-has .left in
+    let on-y = sym (c .has-else-not-has .ensures) ∙ c .if-not-has-2 .left in
     record {
-      step = note-accepted k (s .number) (min (length (s .log .now)) 512 / 2) (lawful (g .K·Kind·met)) (take 256 (s .nodes .now)) (c .args .x) (c .args .y) (c .args .g) m (c .meeting-meeting .ensures)
-          (sym (c .has .ensures) ∙ c .if-not-has .left, sym (c .has-else-not-has .ensures) ∙ c .if-not-has-2 .left)
-          _ (sym (c .if-is-empty .ensures tt)) (ap (take 256) (c .join .ensures) ∙ joined-front k 256 _ m low high);
+      step = note-accepted k (view s) refl (lawful (g .K·Kind·met)) (c .args .x) (c .args .y) (c .args .g) m (c .meeting-meeting .ensures) (on-x, on-y)
+        _ (sym (c .if-is-empty .ensures tt)) (ap (take 256) (c .join .ensures) ∙ joined-front k 256 _ m low high);
       unchanged = tt;
-      frame = record {
-        nodes-lent = refl;
-        log-lent = refl;
-        nodes-past = ap (drop 256) (c .join .ensures) ∙ joined-past k 256 _ m low high;
-        log-past = refl;
-        log-idle = λ _. refl;
-      };
+      frame = log-kept s _ refl (ap (drop 256) (c .join .ensures) ∙ joined-past k 256 _ m low high) refl;
     }
 
 pub returns-then-is-empty : need.returns-then-is-empty
 returns-then-is-empty g c =
-    let k = g .K·Kind in
     let s = c .args .self .now in
+    let on-x = sym (c .has .ensures) ∙ c .if-not-has .left in
+    let on-y = sym (c .has-else-not-has .ensures) ∙ c .if-not-has-2 .left in
     record {
-      step = note-contrary k (s .number) (min (length (s .log .now)) 512 / 2) (lawful (g .K·Kind·met)) (take 256 (s .nodes .now)) (c .args .x) (c .args .y) (c .args .g) _ (c .meeting-meeting .ensures)
-          (sym (c .has .ensures) ∙ c .if-not-has .left, sym (c .has-else-not-has .ensures) ∙ c .if-not-has-2 .left)
-          (sym (c .if-is-empty .ensures tt));
+      step = note-contrary (g .K·Kind) (view s) refl (lawful (g .K·Kind·met)) (c .args .x) (c .args .y) (c .args .g) _ (c .meeting-meeting .ensures) (on-x, on-y)
+        (sym (c .if-is-empty .ensures tt));
       unchanged = (refl, refl);
-      frame = record { nodes-lent = refl; log-lent = refl; nodes-past = refl; log-past = refl; log-idle = λ _. refl };
+      frame = all-kept s;
     }
