@@ -76,14 +76,35 @@ mod tests {
     fn one_loop() -> Result<(), Fail> {
         let mut memory = Memory::new();
         let mut book = Book::open(&mut memory);
-        check_eq(book.enter(b"leads\tnote\t0\t1\tcrossed"), Ok(Reply::Accepted))?;
-        check_eq(book.enter(b"leads\task\t1\t0\tsame"), Ok(Reply::Answered(Answer::Barred)))?;
-        check_eq(book.enter(b"leads\task\t1\t2\tsame"), Ok(Reply::Answered(Answer::Open)))?;
-        check_eq(book.enter(b"leads\tnote\t1\t0\tsame"), Err(BookFault::Call(Refusal::Contrary)))?;
+        check_eq(
+            book.enter(b"leads\tnote\t0\t1\tcrossed"),
+            Ok(Reply::Accepted),
+        )?;
+        check_eq(
+            book.enter(b"leads\task\t1\t0\tsame"),
+            Ok(Reply::Answered(Answer::Barred)),
+        )?;
+        check_eq(
+            book.enter(b"leads\task\t1\t2\tsame"),
+            Ok(Reply::Answered(Answer::Open)),
+        )?;
+        check_eq(
+            book.enter(b"leads\tnote\t1\t0\tsame"),
+            Err(BookFault::Call(Refusal::Contrary)),
+        )?;
         check_eq(book.enter(b"leads\tsee\t0\tplus"), Ok(Reply::Accepted))?;
-        check_eq(book.enter(b"leads\tsee\t1\tplus"), Err(BookFault::Call(Refusal::Contrary)))?;
-        check_eq(book.enter(b"leads\task\t0\t1\tcrossed"), Ok(Reply::Answered(Answer::Holds)))?;
-        check_eq(book.enter(b"leads\tlist"), Err(BookFault::Read(LineFault::Shape)))
+        check_eq(
+            book.enter(b"leads\tsee\t1\tplus"),
+            Err(BookFault::Call(Refusal::Contrary)),
+        )?;
+        check_eq(
+            book.enter(b"leads\task\t0\t1\tcrossed"),
+            Ok(Reply::Answered(Answer::Holds)),
+        )?;
+        check_eq(
+            book.enter(b"leads\tlist"),
+            Err(BookFault::Read(LineFault::Shape)),
+        )
     }
 
     #[test]

@@ -42,7 +42,7 @@ module _ {K R S : Type 0} (k : Ghosts K R S) (s : State R S) (idle : s .trials �
       record {
         outcome = sym (ap (λ c. c .outcome) made);
         left = (λ i. record { number = s .number; table = same i; room = s .room; trials = map (map (kept-read k)) (sym (none-kept (kept k (s .table) l)) i) })
-          ∙ sym (ap (λ c. sheet-read k (c .left)) made);
+            ∙ sym (ap (λ c. sheet-read k (c .left)) made);
       }
 
   step-contrary : (l : Line R S) → Both-on l → entered k (s .table) l ≡ None → Step k s (enter l) (refused 6) s

@@ -80,20 +80,10 @@ fn hang<K: Kind>(
         Node {
             link: upper,
             relation: g,
-            rank: below.rank,
-            set: below.set,
+            ..below
         },
     );
-    store::<K>(
-        nodes,
-        upper,
-        Node {
-            link: above.link,
-            relation: above.relation,
-            rank,
-            set,
-        },
-    );
+    store::<K>(nodes, upper, Node { rank, set, ..above });
 }
 
 // Stores what a meeting has come to.

@@ -46,16 +46,7 @@ pub fn settle<K: Kind>(nodes: &mut [Node<K::Relation, K::Set>], r: u8, set: K::S
     ensures { λ _. ⌜ now (nodes .exit) ≡ settled K·Kind (now (nodes .entry)) r set ⌝ }
 {
     let node = load::<K>(nodes, r);
-    store::<K>(
-        nodes,
-        r,
-        Node {
-            link: node.link,
-            relation: node.relation,
-            rank: node.rank,
-            set,
-        },
-    );
+    store::<K>(nodes, r, Node { set, ..node });
 }
 
 // Makes each of the first 256 points a new one.

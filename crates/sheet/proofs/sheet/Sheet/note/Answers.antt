@@ -20,7 +20,7 @@ returns g c =
     let on-y = sym (c .has-else-not-has .ensures) ∙ c .if-not-has-2 .left in
     record {
       step = note-accepted k (view s) refl (lawful (g .K·Kind·met)) (c .args .x) (c .args .y) (c .args .g) m (c .meeting-meeting .ensures) (on-x, on-y)
-        _ (sym (c .if-is-empty .ensures tt)) (ap (take 256) (c .join .ensures) ∙ joined-front k 256 _ m low high);
+          _ (sym (c .if-is-empty .ensures tt)) (ap (take 256) (c .join .ensures) ∙ joined-front k 256 _ m low high);
       unchanged = tt;
       frame = log-kept s _ refl (ap (drop 256) (c .join .ensures) ∙ joined-past k 256 _ m low high) refl;
     }
@@ -32,7 +32,7 @@ returns-then-is-empty g c =
     let on-y = sym (c .has-else-not-has .ensures) ∙ c .if-not-has-2 .left in
     record {
       step = note-contrary (g .K·Kind) (view s) refl (lawful (g .K·Kind·met)) (c .args .x) (c .args .y) (c .args .g) _ (c .meeting-meeting .ensures) (on-x, on-y)
-        (sym (c .if-is-empty .ensures tt));
+          (sym (c .if-is-empty .ensures tt));
       unchanged = (refl, refl);
       frame = all-kept s;
     }

@@ -17,7 +17,7 @@ returns g c =
     let low : n .reference < 256 = omega (arith, c .narrowing-narrowing .ok) in
     record {
       step = see-accepted k (view s) refl (lawful (g .K·Kind·met)) (c .args .x) (c .args .s) n (c .narrowing-narrowing .ensures) (sym (c .has .ensures) ∙ c .if-not-has .left)
-        _ (sym (c .if-is-empty .ensures tt)) (ap (take 256) (c .settle .ensures) ∙ settled-front k 256 _ (n .reference) (n .left) low);
+          _ (sym (c .if-is-empty .ensures tt)) (ap (take 256) (c .settle .ensures) ∙ settled-front k 256 _ (n .reference) (n .left) low);
       unchanged = tt;
       frame = log-kept s _ refl (ap (drop 256) (c .settle .ensures) ∙ settled-past k 256 _ (n .reference) (n .left) low) refl;
     }
@@ -27,7 +27,7 @@ returns-then-is-empty g c =
     let s = c .args .self .now in
     record {
       step = see-contrary (g .K·Kind) (view s) refl (lawful (g .K·Kind·met)) (c .args .x) (c .args .s) _ (c .narrowing-narrowing .ensures) (sym (c .has .ensures) ∙ c .if-not-has .left)
-        (sym (c .if-is-empty .ensures tt));
+          (sym (c .if-is-empty .ensures tt));
       unchanged = (refl, refl);
       frame = all-kept s;
     }
