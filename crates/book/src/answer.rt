@@ -1,4 +1,6 @@
 // Answering a line on its sheet.
+ghost use mathlib.Core.Path.{_≡_};
+ghost use denote.Ref.{name};
 ghost use Rattle.sheet.specs.Frame.{Frame, Refused-unchanged};
 ghost use Rattle.sheet.specs.Step.{Step};
 ghost use Rattle.sheet.specs.View.{view};
@@ -32,6 +34,8 @@ fn take<K: Kind>(
     ensures step { λ r. ⌜ Step K·Kind (view (now (sheet .entry))) (call-meant call) (called-outcome r) (view (now (sheet .exit))) ⌝ }
     ensures unchanged { λ r. ⌜ Refused-unchanged r (now (sheet .entry)) (now (sheet .exit)) ⌝ }
     ensures frame { λ _. ⌜ Frame (now (sheet .entry)) (now (sheet .exit)) ⌝ }
+    ensures nodes_lent { λ _. ⌜ name (now (sheet .exit) .nodes) ≡ name (now (sheet .entry) .nodes) ⌝ }
+    ensures log_lent { λ _. ⌜ name (now (sheet .exit) .log) ≡ name (now (sheet .entry) .log) ⌝ }
 {
     match call {
         Call::Note { x, y, relation } => {
@@ -53,6 +57,8 @@ pub(crate) fn answer<K: Kind>(sheet: &mut Sheet<'_, K>, line: Line<'_>) -> Resul
     ensures step { λ r. ⌜ Line-step K·Kind (view (now (sheet .entry))) (said-of (line .entry)) (replied r) (view (now (sheet .exit))) ⌝ }
     ensures unchanged { λ r. ⌜ Refused-unchanged r (now (sheet .entry)) (now (sheet .exit)) ⌝ }
     ensures frame { λ _. ⌜ Frame (now (sheet .entry)) (now (sheet .exit)) ⌝ }
+    ensures nodes_lent { λ _. ⌜ name (now (sheet .exit) .nodes) ≡ name (now (sheet .entry) .nodes) ⌝ }
+    ensures log_lent { λ _. ⌜ name (now (sheet .exit) .log) ≡ name (now (sheet .entry) .log) ⌝ }
 {
     let call = read_call::<K>(line)?;
     let reply = take::<K>(sheet, call)?;

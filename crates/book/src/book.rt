@@ -1,5 +1,6 @@
 // The book: a sheet for each kind, and lines answered on them.
 ghost use mathlib.Core.Path.{_≡_};
+ghost use denote.Ref.{name};
 ghost use Rattle.sheet.specs.Frame.{Frame, Refused-unchanged};
 ghost use Rattle.book.specs.Answers.{replied};
 ghost use Rattle.book.specs.Book.{new-book, book-view, Book-step};
@@ -36,6 +37,8 @@ impl<'a> Book<'a> {
         ensures step { λ r. ⌜ Book-step (book-view (now (self .entry))) (now (text .entry)) (replied r) (book-view (now (self .exit))) ⌝ }
         ensures unchanged { λ r. ⌜ Refused-unchanged r (now (self .entry) .leads) (now (self .exit) .leads) ⌝ }
         ensures frame { λ _. ⌜ Frame (now (self .entry) .leads) (now (self .exit) .leads) ⌝ }
+        ensures nodes_lent { λ _. ⌜ name (now (self .exit) .leads .nodes) ≡ name (now (self .entry) .leads .nodes) ⌝ }
+        ensures log_lent { λ _. ⌜ name (now (self .exit) .leads .log) ≡ name (now (self .entry) .leads .log) ⌝ }
     {
         let request = read_line(text)?;
         match request.sheet {

@@ -1,19 +1,11 @@
 -- What calls leave alone.
 use mathlib.Core.Path.{_≡_, refl, ap}
 use lib.ListN.{drop}
-use denote.Ref.{name}
 use Rattle.sheet.specs.declared.sheet.Sheet.{Sheet}
 use Rattle.sheet.specs.Frame.{Frame}
 
-module _ {K R S : Type 0} (a b : Sheet K R S) where
-  pub log-kept : name (b .nodes) ≡ name (a .nodes) → drop 256 (b .nodes .now) ≡ drop 256 (a .nodes .now) → b .log ≡ a .log → Frame a b
-  log-kept lent past same = record {
-    nodes-lent = lent;
-    log-lent = ap name same;
-    nodes-past = past;
-    log-past = ap (λ l. drop 512 (l .now)) same;
-    log-idle = λ _. ap (λ l. l .now) same;
-  }
+pub log-kept : {K R S : Type 0} (a b : Sheet K R S) → drop 256 (b .nodes .now) ≡ drop 256 (a .nodes .now) → b .log ≡ a .log → Frame a b
+log-kept a b past same = record { nodes-past = past; log-past = ap (λ l. drop 512 (l .now)) same; log-idle = λ _. ap (λ l. l .now) same }
 
 pub all-kept : {K R S : Type 0} (a : Sheet K R S) → Frame a a
-all-kept a = log-kept a a refl refl refl
+all-kept a = log-kept a a refl refl

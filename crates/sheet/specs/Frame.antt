@@ -2,7 +2,6 @@
 use mathlib.Core.Path.{_≡_}
 use mathlib.Core.Bool.{false}
 use lib.ListN.{drop}
-use denote.Ref.{name}
 use Rattle.std.specs.declared.result.Result.{Result}
 use Rattle.std.specs.declared.result.Result.the-variants.{Ok, Err}
 use Rattle.sheet.specs.declared.sheet.Sheet.{Sheet}
@@ -10,11 +9,8 @@ use Rattle.sheet.specs.State.{in-trial}
 use Rattle.sheet.specs.View.{view}
 
 module _ {K R S : Type 0} where
-  -- from a to b: both lend from the same memory, nothing past the used nodes and log entries is written, and outside a
-  -- trial nothing is written to the log
+  -- from a to b nothing past the used nodes and log entries is written, and outside a trial nothing is written to the log
   pub record Frame (a b : Sheet K R S) : Type 0 where
-    pub nodes-lent : name (b .nodes) ≡ name (a .nodes)
-    pub log-lent : name (b .log) ≡ name (a .log)
     pub nodes-past : drop 256 (b .nodes .now) ≡ drop 256 (a .nodes .now)
     pub log-past : drop 512 (b .log .now) ≡ drop 512 (a .log .now)
     pub log-idle : in-trial (view a) ≡ false → b .log .now ≡ a .log .now

@@ -1,11 +1,13 @@
 // The calls on a sheet.
 ghost use mathlib.Core.Path.{_≡_};
-ghost use lib.Dec.{ltb};
-ghost use lib.ListN.{length, take};
+ghost use mathlib.Core.Bool.{_&&_};
+ghost use lib.ListN.{take};
+ghost use denote.Ref.{name};
 ghost use Rattle.table.specs.Note.{Meets};
 ghost use Rattle.table.specs.See.{Narrows};
 ghost use Rattle.sheet.specs.Calls.{enter, note, see, ask};
 ghost use Rattle.sheet.specs.Frame.{Frame, Refused-unchanged};
+ghost use Rattle.sheet.specs.State.{on};
 ghost use Rattle.sheet.specs.Step.{Step, Looks};
 ghost use Rattle.sheet.specs.View.{view, entering, asking};
 use crate::refusal::Refusal;
@@ -26,9 +28,15 @@ impl<'a, K: Kind> Sheet<'a, K> {
     }
 
     fn has(&self, x: u8) -> bool
-        ensures { λ r. ⌜ r ≡ ltb x (length (view (now (self .entry)) .table)) ⌝ }
+        ensures { λ r. ⌜ r ≡ on (view (now (self .entry))) x ⌝ }
     {
         (x as usize) < self.table().len()
+    }
+
+    fn has_both(&self, x: u8, y: u8) -> bool
+        ensures { λ r. ⌜ r ≡ (on (view (now (self .entry))) x && on (view (now (self .entry))) y) ⌝ }
+    {
+        self.has(x) && self.has(y)
     }
 
     fn meeting(&self, x: u8, y: u8, g: K::Relation) -> Meeting<K::Relation, K::Set>
@@ -48,8 +56,10 @@ impl<'a, K: Kind> Sheet<'a, K> {
         ensures step { λ r. ⌜ Step K·Kind (view (now (self .entry))) (enter (note x y g)) (entering r) (view (now (self .exit))) ⌝ }
         ensures unchanged { λ r. ⌜ Refused-unchanged r (now (self .entry)) (now (self .exit)) ⌝ }
         ensures frame { λ _. ⌜ Frame (now (self .entry)) (now (self .exit)) ⌝ }
+        ensures nodes_lent { λ _. ⌜ name (now (self .exit) .nodes) ≡ name (now (self .entry) .nodes) ⌝ }
+        ensures log_lent { λ _. ⌜ name (now (self .exit) .log) ≡ name (now (self .entry) .log) ⌝ }
     {
-        if !self.has(x) || !self.has(y) {
+        if !self.has_both(x, y) {
             return Err(Refusal::OffSheet);
         }
         let meeting = self.meeting(x, y, g);
@@ -65,6 +75,8 @@ impl<'a, K: Kind> Sheet<'a, K> {
         ensures step { λ r. ⌜ Step K·Kind (view (now (self .entry))) (enter (see x s)) (entering r) (view (now (self .exit))) ⌝ }
         ensures unchanged { λ r. ⌜ Refused-unchanged r (now (self .entry)) (now (self .exit)) ⌝ }
         ensures frame { λ _. ⌜ Frame (now (self .entry)) (now (self .exit)) ⌝ }
+        ensures nodes_lent { λ _. ⌜ name (now (self .exit) .nodes) ≡ name (now (self .entry) .nodes) ⌝ }
+        ensures log_lent { λ _. ⌜ name (now (self .exit) .log) ≡ name (now (self .entry) .log) ⌝ }
     {
         if !self.has(x) {
             return Err(Refusal::OffSheet);
@@ -81,7 +93,7 @@ impl<'a, K: Kind> Sheet<'a, K> {
     pub fn ask(&self, x: u8, y: u8, g: K::Relation) -> Result<Answer, Refusal>
         ensures { λ r. ⌜ Step K·Kind (view (now (self .entry))) (ask x y g) (asking r) (view (now (self .entry))) ⌝ }
     {
-        if !self.has(x) || !self.has(y) {
+        if !self.has_both(x, y) {
             return Err(Refusal::OffSheet);
         }
         Ok(table::ask::<K>(self.table(), x, y, g))
