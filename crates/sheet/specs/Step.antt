@@ -1,14 +1,11 @@
 -- What the contract of a call says: it takes one step by the rules.
 use Prim.Native.Nat.{ℕ, _<_, _≤_}
 use mathlib.Core.Path.{_≡_}
-use mathlib.Core.Bool.{false}
 use lib.ListN.{length}
 use Rattle.std.specs.declared.result.Result.{Result}
 use Rattle.std.specs.declared.result.Result.the-variants.{Ok, Err}
 use Rattle.kind.specs.declared.Kind.{Ghosts}
-use Rattle.kind.specs.Same.{Same-members}
-use Rattle.table.specs.Note.{empty}
-use Rattle.table.specs.Look.{looked}
+use Rattle.table.specs.Look.{Looks}
 use Rattle.sheet.specs.declared.refusal.Refusal.{Refusal}
 use Rattle.sheet.specs.declared.refusal.Refusal.the-variants.{OffSheet}
 use Rattle.sheet.specs.State.{State}
@@ -21,9 +18,7 @@ module _ {K R S : Type 0} (k : Ghosts K R S) where
     pub outcome : o ≡ called k s c .outcome
     pub left : sheet-read k s′ ≡ sheet-read k (called k s c .left)
 
-  -- what a look at x gives: a set is settled by its members, and by its word unless it is empty
-  abbrev pub Looks : State R S → ℕ → Result S Refusal → Type 0
-  Looks s x (Ok q) =
-      (x < length (s .table)) × Same-members k q (looked k (s .table) x)
-      × (empty k q ≡ false → k .label q ≡ k .label (looked k (s .table) x))
-  Looks s x (Err e) = (length (s .table) ≤ x) × (e ≡ OffSheet)
+  -- what a look at x gives on the sheet s
+  abbrev pub Looks-at : State R S → ℕ → Result S Refusal → Type 0
+  Looks-at s x (Ok q) = (x < length (s .table)) × Looks k (s .table) x q
+  Looks-at s x (Err e) = (length (s .table) ≤ x) × (e ≡ OffSheet)

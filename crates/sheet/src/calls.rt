@@ -3,12 +3,13 @@ ghost use mathlib.Core.Path.{_≡_};
 ghost use mathlib.Core.Bool.{_&&_};
 ghost use lib.ListN.{take};
 ghost use denote.Ref.{name};
+ghost use Rattle.table.specs.Look.{Looks};
 ghost use Rattle.table.specs.Note.{Meets};
 ghost use Rattle.table.specs.See.{Narrows};
 ghost use Rattle.sheet.specs.Calls.{enter, note, see, ask};
 ghost use Rattle.sheet.specs.Frame.{Frame, Refused-unchanged};
 ghost use Rattle.sheet.specs.State.{on};
-ghost use Rattle.sheet.specs.Step.{Step, Looks};
+ghost use Rattle.sheet.specs.Step.{Step, Looks-at};
 ghost use Rattle.sheet.specs.View.{view, entering, asking};
 use crate::refusal::Refusal;
 use crate::sheet::Sheet;
@@ -49,6 +50,12 @@ impl<'a, K: Kind> Sheet<'a, K> {
         ensures { λ r. ⌜ Narrows K·Kind (view (now (self .entry)) .table) x s r ⌝ }
     {
         table::narrow::<K>(self.table(), x, s)
+    }
+
+    fn values(&self, x: u8) -> K::Set
+        ensures { λ r. ⌜ Looks K·Kind (view (now (self .entry)) .table) x r ⌝ }
+    {
+        table::look::<K>(self.table(), x)
     }
 
     // Notes that the value of x is g applied to the value of y.
@@ -101,11 +108,11 @@ impl<'a, K: Kind> Sheet<'a, K> {
 
     // The set of values that x may still have.
     pub fn look(&self, x: u8) -> Result<K::Set, Refusal>
-        ensures { λ r. ⌜ Looks K·Kind (view (now (self .entry))) x r ⌝ }
+        ensures { λ r. ⌜ Looks-at K·Kind (view (now (self .entry))) x r ⌝ }
     {
         if !self.has(x) {
             return Err(Refusal::OffSheet);
         }
-        Ok(table::look::<K>(self.table(), x))
+        Ok(self.values(x))
     }
 }
