@@ -9,12 +9,13 @@ use Rattle.sheet.specs.Refusals.{refusal-number}
 use Rattle.sheet.specs.State.{State}
 use Rattle.sheet.specs.Calls.{Call, Outcome, accepted, answered, refused, Taken, stays, called}
 use Rattle.sheet.specs.Words.{sheet-read}
-use Rattle.book.specs.Faults.{line-number, book-number}
+use Rattle.lines.specs.Faults.{line-number}
+use Rattle.book.specs.Faults.{book-number}
 use Rattle.book.specs.Requests.{call-of}
-use Rattle.book.specs.Said.{Said}
+use Rattle.lines.specs.Said.{Said}
 use Rattle.book.specs.declared.answer.Reply.{Reply}
 use Rattle.book.specs.declared.answer.Reply.the-variants.{Accepted, Answered}
-use Rattle.book.specs.declared.fault.LineFault.{LineFault}
+use Rattle.lines.specs.declared.fault.LineFault.{LineFault}
 use Rattle.book.specs.declared.fault.BookFault.{BookFault}
 
 module _ {K R S : Type 0} (k : Ghosts K R S) where

@@ -14,12 +14,12 @@ use Rattle.sheet.specs.Calls.{Outcome, refused, Taken}
 use Rattle.sheet.specs.View.{view}
 use Rattle.sheet.specs.Words.{sheet-read}
 use Rattle.book.specs.Answers.{line-taken}
-use Rattle.book.specs.Faults.{line-number}
-use Rattle.book.specs.Said.{Heard, Said, parse}
+use Rattle.lines.specs.Faults.{line-number}
+use Rattle.lines.specs.Said.{Heard, Said, parse}
 use Rattle.book.specs.declared.book.Book as code
-use Rattle.book.specs.declared.fault.LineFault.{LineFault}
-use Rattle.book.specs.declared.line.SheetName.{SheetName}
-use Rattle.book.specs.declared.line.SheetName.the-variants as sheets
+use Rattle.lines.specs.declared.fault.LineFault.{LineFault}
+use Rattle.lines.specs.declared.line.SheetName.{SheetName}
+use Rattle.lines.specs.declared.line.SheetName.the-variants as sheets
 
 -- the sheets of a book
 pub record Sheets (R S : Type 0) : Type 0 where

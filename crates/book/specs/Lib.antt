@@ -1,9 +1,5 @@
 pub mod Answers
 pub mod Book
 pub mod Faults
-pub mod Fields
-pub mod Parts
-pub mod Point
 pub mod Printed
 pub mod Requests
-pub mod Said

@@ -8,12 +8,12 @@ use Rattle.kind.specs.declared.Kind.{Ghosts}
 use Rattle.kind.specs.declared.fault.WordFault.the-variants.{NotAWord}
 use Rattle.sheet.specs.Calls as sheets
 use Rattle.sheet.specs.Calls.{enter}
-use Rattle.book.specs.Point.{point-of}
-use Rattle.book.specs.Said.{Said, note, see, ask}
+use Rattle.lines.specs.Point.{point-of}
+use Rattle.lines.specs.Said.{Said, note, see, ask}
 use Rattle.book.specs.declared.call.Call.{Call}
 use Rattle.book.specs.declared.call.Call.the-variants.{Note, See, Ask}
-use Rattle.book.specs.declared.fault.LineFault.{LineFault}
-use Rattle.book.specs.declared.fault.LineFault.the-variants.{Point, Word}
+use Rattle.lines.specs.declared.fault.LineFault.{LineFault}
+use Rattle.lines.specs.declared.fault.LineFault.the-variants.{Point, Word}
 
 -- the first fault, or what comes of the value
 abbrev pub bind : {X Y : Type 0} → Result X LineFault → (X → Result Y LineFault) → Result Y LineFault

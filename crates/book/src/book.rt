@@ -8,12 +8,12 @@ use crate::answer::Reply;
 use crate::answer::answer;
 use crate::fault::BookFault;
 use crate::fault::BookFromLine;
-use crate::line::SheetName;
-use crate::line::read_line;
 use crate::memory::Memory;
 use crate::memory::SheetMemory;
 use kinds::leads::Leads;
 use kinds::leads::LeadsKind;
+use lines::SheetName;
+use lines::read_line;
 use sheet::Sheet;
 
 #[derive(Drop)]

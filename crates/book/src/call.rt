@@ -1,12 +1,12 @@
 // A line with its fields read.
 ghost use mathlib.Core.Path.{_≡_};
 ghost use Rattle.book.specs.Requests.{meant, call-of};
-ghost use Rattle.book.specs.Said.{said-of};
-use crate::fault::LineFault;
-use crate::fault::LineFromWord;
-use crate::line::Line;
-use crate::point::read_point;
+ghost use Rattle.lines.specs.Said.{said-of};
 use kind::Kind;
+use lines::Line;
+use lines::LineFault;
+use lines::LineFromWord;
+use lines::read_point;
 
 #[derive(Clone, Copy)]
 pub enum Call<R, S> {

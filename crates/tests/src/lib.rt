@@ -1,18 +1,24 @@
-// Examples of lines and what the book answers.
+// Examples of lines with what the book answers, and of calls on a sheet.
 #[cfg(test)]
 mod tests {
     use book::Book;
     use book::BookFault;
     use book::BookFaultDebug;
     use book::BookFaultPartialEq;
-    use book::LineFault;
-    use book::LineFaultDebug;
-    use book::LineFaultPartialEq;
     use book::Memory;
     use book::Reply;
     use book::ReplyDebug;
     use book::ReplyPartialEq;
     use book::print_reply;
+    use kinds::leads::Ends;
+    use kinds::leads::Leads;
+    use kinds::leads::LeadsKind;
+    use kinds::leads::Turn;
+    use lines::LineFault;
+    use lines::LineFaultDebug;
+    use lines::LineFaultPartialEq;
+    use sheet::Entry;
+    use sheet::EntryClone;
     use sheet::Refusal;
     use sheet::RefusalDebug;
     use sheet::RefusalPartialEq;
@@ -20,6 +26,8 @@ mod tests {
     use table::Answer;
     use table::AnswerDebug;
     use table::AnswerPartialEq;
+    use table::NodeClone;
+    use table::new_node;
 
     // What a new book prints for a line, by the fault's number; 0 where it is not refused.
     fn refusal(line: &[u8]) -> u8 {
@@ -118,5 +126,19 @@ mod tests {
         print_reply(&mut out, 10, book.enter(b"leads\task\t0\t1\tsame"))?;
         print_reply(&mut out, 65536, book.enter(b"leads\tsee\t1\tminus"))?;
         check(out.as_slice() == b"1\topen\n2\tok\n3\tok\n10\tholds\n65536\trefused\t6\n")
+    }
+
+    #[test]
+    fn on_a_sheet() -> Result<(), Fail> {
+        let node = new_node::<Leads>(0);
+        let mut nodes = [node; 8];
+        let mut log = [Entry { point: 0, node }; 16];
+        let mut sheet = sheet::open::<Leads>(&mut nodes, &mut log, 1);
+        check_eq(sheet.note(0, 1, Turn::Crossed), Ok(()))?;
+        check_eq(sheet.see(1, Ends::PLUS), Ok(()))?;
+        check_eq(sheet.ask(0, 1, Turn::Same), Ok(Answer::Barred))?;
+        check_eq(sheet.note(8, 0, Turn::Same), Err(Refusal::OffSheet))?;
+        let left = sheet.look(0)?;
+        check(left.minus && !left.plus)
     }
 }

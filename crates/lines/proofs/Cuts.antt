@@ -8,9 +8,9 @@ use lib.ListN.{length, getD, take, drop}
 use Rattle.std.proofs.shelf.Lists.{take-all, take-more, at-drop-more, at-drop-all}
 use Rattle.std.proofs.shelf.Tests.{eq-eqb, ne-eqb, cond-true, cond-false}
 use Rattle.std.specs.declared.result.Result.the-variants.{Err}
-use Rattle.book.specs.Fields.{none}
-use Rattle.book.specs.Parts.{onto, parts}
-use Rattle.book.specs.declared.fault.LineFault.the-variants.{Shape}
+use Rattle.lines.specs.Fields.{none}
+use Rattle.lines.specs.Parts.{onto, parts}
+use Rattle.lines.specs.declared.fault.LineFault.the-variants.{Shape}
 
 -- some bytes in front of the first part
 abbrev pub begun : List ℕ → List (List ℕ) → List (List ℕ)

@@ -2,8 +2,8 @@ use mathlib.Core.Path.{_≡_}
 use Prim.Native.Nat.{_-_}
 use native.Mathlib.Omega.{arith}
 use Rattle.std.proofs.shelf.Lists.{take-rest}
-use Rattle.book.proofs.Cuts.{starts, goes, stops, ends}
-use Rattle.book.proofs.parts.cut.Needs as need
+use Rattle.lines.proofs.Cuts.{starts, goes, stops, ends}
+use Rattle.lines.proofs.parts.cut.Needs as need
 
 pub loop-i-holds : need.loop-i-holds
 loop-i-holds c = starts (c .args .separator) (c .args .text .now)

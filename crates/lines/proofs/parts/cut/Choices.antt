@@ -1,5 +1,5 @@
-use Rattle.book.proofs.Cuts.{Uncut}
-use Rattle.book.proofs.parts.cut.Given as given
+use Rattle.lines.proofs.Cuts.{Uncut}
+use Rattle.lines.proofs.parts.cut.Given as given
 
 abbrev pub Inv-loop-i : given.InvT-loop-i
 Inv-loop-i l = Uncut (l .separator) (l .text) (l .i)

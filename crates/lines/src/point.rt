@@ -1,8 +1,8 @@
 // Reading a point.
 ghost use mathlib.Core.Path.{_≡_};
 ghost use Rattle.std.specs.Options.{okOr};
-ghost use Rattle.book.specs.Point.{point-of, if-point};
-ghost use Rattle.book.specs.declared.fault.LineFault.the-variants.{Point};
+ghost use Rattle.lines.specs.Point.{point-of, if-point};
+ghost use Rattle.lines.specs.declared.fault.LineFault.the-variants.{Point};
 use crate::fault::LineFault;
 
 const LAST: u16 = 255;

@@ -1,6 +1,6 @@
 use mathlib.Core.Path.{sym}
-use Rattle.book.proofs.Cuts.{parts-some}
-use Rattle.book.proofs.fields.end.Needs as need
+use Rattle.lines.proofs.Cuts.{parts-some}
+use Rattle.lines.proofs.fields.end.Needs as need
 
 pub returns-in-Some : need.returns-in-Some
 returns-in-Some c = rw (c .in-Some .is) (sym (parts-some 9 (c .in-Some .field-0 .now)))

@@ -5,9 +5,9 @@ use denote.Ref.{RefT}
 use Rattle.std.specs.declared.option.Option.{Option}
 use Rattle.std.specs.declared.result.Result.{Result}
 use Rattle.std.specs.declared.result.Result.the-variants.{Ok, Err}
-use Rattle.book.specs.Parts.{parts, parts-left}
-use Rattle.book.specs.declared.fault.LineFault.{LineFault}
-use Rattle.book.specs.declared.fault.LineFault.the-variants.{Shape}
+use Rattle.lines.specs.Parts.{parts, parts-left}
+use Rattle.lines.specs.declared.fault.LineFault.{LineFault}
+use Rattle.lines.specs.declared.fault.LineFault.the-variants.{Shape}
 
 abbrev pub fields : List ℕ → List (List ℕ)
 fields text = parts 9 text

@@ -11,14 +11,14 @@ use Rattle.std.specs.declared.result.Result.{Result}
 use Rattle.std.specs.declared.result.Result.the-variants.{Ok, Err}
 use Rattle.std.specs.shelf.Text.{sameBytes}
 use Rattle.kind.specs.Reading.{first-with}
-use Rattle.book.specs.Fields.{fields, two, three}
-use Rattle.book.specs.declared.fault.LineFault.{LineFault}
-use Rattle.book.specs.declared.fault.LineFault.the-variants.{Long, Shape}
-use Rattle.book.specs.declared.line.SheetName.{SheetName}
-use Rattle.book.specs.declared.line.SheetName.the-variants.{Leads}
-use Rattle.book.specs.declared.line.Line.{Line}
-use Rattle.book.specs.declared.line.Line.the-variants.{Note, See, Ask}
-use Rattle.book.specs.declared.line.Request.{Request}
+use Rattle.lines.specs.Fields.{fields, two, three}
+use Rattle.lines.specs.declared.fault.LineFault.{LineFault}
+use Rattle.lines.specs.declared.fault.LineFault.the-variants.{Long, Shape}
+use Rattle.lines.specs.declared.line.SheetName.{SheetName}
+use Rattle.lines.specs.declared.line.SheetName.the-variants.{Leads}
+use Rattle.lines.specs.declared.line.Line.{Line}
+use Rattle.lines.specs.declared.line.Line.the-variants.{Note, See, Ask}
+use Rattle.lines.specs.declared.line.Request.{Request}
 
 -- a line by its words
 pub data Said : Type 0 where

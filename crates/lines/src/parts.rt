@@ -1,7 +1,7 @@
 // Cutting a text at a byte.
 ghost use mathlib.Core.Path.{_≡_};
 ghost use mathlib.Core.List.{_∷_};
-ghost use Rattle.book.specs.Parts.{parts, parts-left};
+ghost use Rattle.lines.specs.Parts.{parts, parts-left};
 
 // The part before the first such byte, and what follows that byte, if it is there.
 pub(crate) fn cut<'a>(text: &'a [u8], separator: u8) -> (&'a [u8], Option<&'a [u8]>)

@@ -1,9 +1,9 @@
 // What a line asks for.
 ghost use mathlib.Core.Path.{_≡_};
 ghost use Rattle.std.specs.Options.{okOr};
-ghost use Rattle.book.specs.Fields.{remaining};
-ghost use Rattle.book.specs.Said.{with, sheet-named, said-of, said-by, heard, parse};
-ghost use Rattle.book.specs.declared.fault.LineFault.the-variants.{Shape};
+ghost use Rattle.lines.specs.Fields.{remaining};
+ghost use Rattle.lines.specs.Said.{with, sheet-named, said-of, said-by, heard, parse};
+ghost use Rattle.lines.specs.declared.fault.LineFault.the-variants.{Shape};
 use crate::fault::LineFault;
 use crate::fields::TAB;
 use crate::fields::field;

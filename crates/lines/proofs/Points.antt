@@ -19,7 +19,7 @@ use Rattle.std.specs.Written.{decimal}
 use Rattle.std.specs.declared.option.Option.the-variants.{Some, None}
 use Rattle.std.specs.shelf.Text.{sameBytes}
 use Rattle.kind.specs.Reading.{first-with}
-use Rattle.book.specs.Point.{below, point-of, if-point}
+use Rattle.lines.specs.Point.{below, point-of, if-point}
 
 own : Numerals (Digits 10) (value 10)
 own = numerals-by-value (Digits 10) tells-digits

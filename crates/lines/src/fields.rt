@@ -2,8 +2,8 @@
 ghost use mathlib.Core.Path.{_≡_};
 ghost use mathlib.Core.List.{[], _∷_};
 ghost use Rattle.std.specs.Results.{Cases};
-ghost use Rattle.book.specs.Fields.{remaining, none, two, three, both, all-three};
-ghost use Rattle.book.specs.declared.fault.LineFault.the-variants.{Shape};
+ghost use Rattle.lines.specs.Fields.{remaining, none, two, three, both, all-three};
+ghost use Rattle.lines.specs.declared.fault.LineFault.the-variants.{Shape};
 use crate::fault::LineFault;
 use crate::parts::cut;
 

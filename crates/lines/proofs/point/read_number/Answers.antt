@@ -4,8 +4,8 @@ use native.Mathlib.Omega.{arith}
 use Rattle.std.proofs.shelf.Lists.{take-all}
 use Rattle.std.proofs.shelf.Numerals.{digit-at}
 use Rattle.std.specs.Reads.{Digits, value}
-use Rattle.book.proofs.Points.{read-more, read-few, refused, accepted}
-use Rattle.book.proofs.point.read_number.Needs as need
+use Rattle.lines.proofs.Points.{read-more, read-few, refused, accepted}
+use Rattle.lines.proofs.point.read_number.Needs as need
 
 pub returns-then-is-empty : need.returns-then-is-empty
 returns-then-is-empty c = refused (c .args .field .now) (λ n lt m. grind (arith, m .plain))
