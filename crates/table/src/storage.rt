@@ -1,4 +1,5 @@
-// Nodes read and written whole. Past the end of the table a read gives a new point's node, and a write does nothing.
+// Nodes, read field by field and written whole. Past the end of the table a read gives a new point's node, and a write
+// does nothing.
 ghost use Prim.Native.Nat.{min};
 ghost use mathlib.Core.Path.{_≡_};
 ghost use mathlib.Core.List.{_++_};
@@ -23,7 +24,12 @@ pub fn load<K: Kind>(nodes: &[Node<K::Relation, K::Set>], x: u8) -> Node<K::Rela
 {
     let i = x as usize;
     if i < nodes.len() {
-        return nodes[i];
+        return Node {
+            link: nodes[i].link,
+            relation: nodes[i].relation,
+            rank: nodes[i].rank,
+            set: nodes[i].set,
+        };
     }
     new_node::<K>(x)
 }
