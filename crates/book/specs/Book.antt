@@ -4,13 +4,12 @@ use mathlib.Core.Path.{_≡_}
 use mathlib.Core.List.{List}
 use Rattle.std.specs.declared.result.Result.{Result}
 use Rattle.std.specs.declared.result.Result.the-variants.{Ok, Err}
-use Rattle.kind.specs.declared.Kind.{Ghosts}
 use Rattle.kinds.specs.declared.leads.Leads.{Leads}
 use Rattle.kinds.specs.declared.leads.Turn.{Turn}
 use Rattle.kinds.specs.declared.leads.Ends.{Ends}
 use Rattle.kinds.specs.contracts.leads.LeadsKind.the-impl.{ghosts as leads-kind}
 use Rattle.sheet.specs.State.{State, new-sheet}
-use Rattle.sheet.specs.Calls.{Outcome, refused, Taken}
+use Rattle.sheet.specs.Calls.{Outcome, refused}
 use Rattle.sheet.specs.View.{view}
 use Rattle.sheet.specs.Words.{sheet-read}
 use Rattle.book.specs.Answers.{line-taken}

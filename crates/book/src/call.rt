@@ -9,14 +9,14 @@ use lines::LineFromWord;
 use lines::read_point;
 
 #[derive(Clone, Copy)]
-pub enum Call<R, S> {
+pub(crate) enum Call<R, S> {
     Note { x: u8, y: u8, relation: R },
     See { x: u8, set: S },
     Ask { x: u8, y: u8, relation: R },
 }
 
 // Points are read before words, so that a bad point is told first.
-pub fn read_call<K: Kind>(line: Line<'_>) -> Result<Call<K::Relation, K::Set>, LineFault>
+pub(crate) fn read_call<K: Kind>(line: Line<'_>) -> Result<Call<K::Relation, K::Set>, LineFault>
     ensures { λ r. ⌜ meant r ≡ call-of K·Kind (said-of (line .entry)) ⌝ }
 {
     match line {

@@ -11,8 +11,6 @@ pub use answer::ReplyDebug;
 pub use answer::ReplyEq;
 pub use answer::ReplyPartialEq;
 pub use book::Book;
-pub use call::Call;
-pub use call::read_call;
 pub use fault::BookFault;
 pub use fault::BookFaultDebug;
 pub use fault::BookFaultEq;

@@ -5,13 +5,12 @@ use mathlib.Core.Bool.{Bool, true, false, _&&_}
 use lib.Dec.{eqb}
 use Rattle.std.proofs.shelf.Tests.{eqb-true, eqb-false, eq-eqb, ne-eqb}
 use Rattle.kind.specs.declared.Kind.{Ghosts}
-use Rattle.kind.specs.Plain.{members}
 use Rattle.kind.specs.Same.{Same-moves, Same-members}
 use Rattle.kind.proofs.Lawful.{Lawful}
 use Rattle.kind.proofs.Members.{members-none, none-passes, members-alike, some-passes}
 
 -- tests that follow from each other are equal
-pub same-test : (b c : Bool) → (b ≡ true → c ≡ true) → (c ≡ true → b ≡ true) → b ≡ c
+same-test : (b c : Bool) → (b ≡ true → c ≡ true) → (c ≡ true → b ≡ true) → b ≡ c
 same-test true c p q = sym (p refl)
 same-test false true p q = q refl
 same-test false false p q = refl
@@ -70,7 +69,7 @@ module _ {K R S : Type 0} (k : Ghosts K R S) (laws : Lawful k) where
           eq-eqb _ _ (laws .count-tells t .one-only (sym (members-alike _ _ (k .span) p) ∙ laws .count-tells s .single (eqb-true _ _ e)))
 
   -- a set whose tally is not 0 has a member
-  pub member : (s : S) → eqb (k .count s) 0 ≡ false → (v : ℕ) × (v < k .span) × (k .has s v ≡ true)
+  member : (s : S) → eqb (k .count s) 0 ≡ false → (v : ℕ) × (v < k .span) × (k .has s v ≡ true)
   member s e = some-passes (k .has s) (k .span) (λ z. eqb-false _ _ e (laws .count-tells s .no-one z))
 
   -- such sets have one word where they have the same members

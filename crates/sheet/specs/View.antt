@@ -1,6 +1,6 @@
 -- What the code holds and answers, in the words of the rules.
-use Prim.Native.Nat.{ℕ, _/_, min}
-use mathlib.Core.List.{List, []}
+use Prim.Native.Nat.{_/_, min}
+use mathlib.Core.List.{[]}
 use lib.ListN.{length, take}
 use Rattle.std.specs.declared.result.Result.{Result}
 use Rattle.std.specs.declared.result.Result.the-variants.{Ok, Err}

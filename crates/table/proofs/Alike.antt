@@ -4,7 +4,7 @@ use mathlib.Core.Path.{_≡_, refl, sym, ap, _∙_}
 use mathlib.Core.Bool.{Bool, true, false, cond, _&&_}
 use mathlib.Core.List.{List, [], _∷_, map}
 use lib.Dec.{eqb, leb}
-use lib.ListN.{length, getD, set, length-map}
+use lib.ListN.{getD, set}
 use lib.Seq.{map-set}
 use Rattle.std.proofs.shelf.Tests.{both-ways}
 use Rattle.kind.specs.declared.Kind.{Ghosts}
@@ -12,11 +12,10 @@ use Rattle.kind.specs.Same.{Same-moves, Same-members}
 use Rattle.kind.proofs.Lawful.{Lawful}
 use Rattle.kind.proofs.Alike.{comp-alike, inv-alike, meet-alike, shift-alike, fixed-alike, inside-alike, none-alike, one-alike, label-alike, shift-some}
 use Rattle.table.specs.declared.node.Node.{Node}
-use Rattle.table.specs.declared.notes.Meeting.{Meeting}
 use Rattle.table.specs.declared.questions.Answer.{Answer}
 use Rattle.table.specs.Table.{fresh, at, settled}
 use Rattle.table.specs.Words.{node-read, table-read}
-use Rattle.table.specs.Note.{combined, empty, left, hung, raised, joined}
+use Rattle.table.specs.Note.{combined, empty, left, hung, joined}
 use Rattle.table.specs.Ask.{sure, asked-at}
 
 -- two choices by tests that agree
@@ -43,7 +42,7 @@ module _ {K R S : Type 0} (k : Ghosts K R S) (laws : Lawful k) where
     rank-alike : (x : ℕ) → at k u x .rank ≡ at k t x .rank
     rank-alike x = ap (λ n. n .rank) (node-alike x)
 
-    pub set-alike : (x : ℕ) → Same-members k (at k u x .set) (at k t x .set)
+    set-alike : (x : ℕ) → Same-members k (at k u x .set) (at k t x .set)
     set-alike x = laws .label-tells _ _ (ap (λ n. n .set) (node-alike x))
 
     pub left-alike : (r1 r2 : ℕ) (h g : R) → Same-moves k h g → Same-members k (left k u r1 r2 h) (left k t r1 r2 g)

@@ -1,10 +1,8 @@
 -- The walk, link by link.
-use Prim.Native.Nat.{ℕ, zero, suc, _-_, _<_, _≤_}
+use Prim.Native.Nat.{ℕ, zero, suc, _-_, _<_}
 use mathlib.Core.Path.{_≡_, refl, sym, ap, _∙_}
-use mathlib.Core.Bool.{true, false, cond}
 use mathlib.Core.List.{List}
 use native.Mathlib.Omega.{arith}
-use lib.Dec.{eqb}
 use lib.ListN.{length}
 use Rattle.std.proofs.shelf.Lists.{getD-past}
 use Rattle.std.proofs.shelf.Tests.{cond-true, cond-false, eq-eqb, ne-eqb, cases-lt}
@@ -12,11 +10,10 @@ use mathlib.Core.Logic.{⊎-elim}
 use Rattle.kind.specs.declared.Kind.{Ghosts}
 use Rattle.kind.specs.Same.{Same-moves}
 use Rattle.kind.proofs.Lawful.{Lawful}
-use Rattle.kind.proofs.Alike.{comp-alike, assoc-alike, unit-left, unit-right}
+use Rattle.kind.proofs.Alike.{assoc-alike, unit-left, unit-right}
 use Rattle.table.specs.declared.node.Node.{Node}
-use Rattle.table.specs.declared.walks.Route.{Route}
 use Rattle.table.specs.Table.{at}
-use Rattle.table.specs.Walk.{here, linked-by, walk-along, walked, Keeps, Carries}
+use Rattle.table.specs.Walk.{here, linked-by, walk-along, walked, Carries}
 use Rattle.table.specs.Words.{route-read}
 
 module _ {K R S : Type 0} (k : Ghosts K R S) (t : List (Node R S)) where

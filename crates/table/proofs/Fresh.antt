@@ -1,5 +1,5 @@
 -- A table made new, point by point.
-use Prim.Native.Nat.{ℕ, zero, suc, min, _+_, _<_, _≤_}
+use Prim.Native.Nat.{ℕ, zero, suc, min, _+_, _<_}
 use mathlib.Core.Path.{_≡_, refl, sym, ap, _∙_}
 use mathlib.Core.List.{List, [], _∷_, _++_, append-assoc}
 use mathlib.Core.Logic.{⊎-elim}
@@ -13,7 +13,7 @@ use Rattle.table.specs.declared.node.Node.{Node}
 use Rattle.table.specs.Table.{fresh, fresh-from}
 
 module _ {K R S : Type 0} (k : Ghosts K R S) where
-  pub fresh-length : (x n : ℕ) → length (fresh-from k x n) ≡ n
+  fresh-length : (x n : ℕ) → length (fresh-from k x n) ≡ n
   fresh-length x zero = refl
   fresh-length x (suc n) = ap suc (fresh-length (suc x) n)
 

@@ -44,7 +44,7 @@ module _ {K R S : Type 0} (k : Ghosts K R S) where
         set (set t lower (record { link = upper; relation = g; rank = at k t lower .rank; set = at k t lower .set }))
         upper (record { link = at k t upper .link; relation = at k t upper .relation; rank = rank; set = s })
 
-    -- the rank of r1 with r2 below it; 255 is the largest that a node can hold, and no table made by calls comes near it
+    -- the rank of r1 with r2 below it; 255 is the largest that a node can hold
     abbrev pub raised : ℕ → ℕ → ℕ
     raised r1 r2 = max (at k t r1 .rank) (min (at k t r2 .rank + 1) 255)
 

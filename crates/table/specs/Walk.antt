@@ -23,7 +23,7 @@ module _ {K R S : Type 0} (k : Ghosts K R S) where
   walk-along t zero x = here x
   walk-along t (suc d) x = cond (eqb (at k t x .link) x) (here x) (linked-by (at k t x .relation) (walk-along t d (at k t x .link)))
 
-  -- no walk to a reference has more links than the table has points
+  -- as many links as the table has points suffice where no link leads round in a circle
   abbrev pub walked : List (Node R S) → ℕ → Route R
   walked t x = walk-along t (length t) x
 

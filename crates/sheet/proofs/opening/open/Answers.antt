@@ -1,8 +1,7 @@
 use Prim.Native.Nat.{_/_, min}
-use mathlib.Core.Path.{_≡_, refl, ap, _∙_}
+use mathlib.Core.Path.{refl, ap, _∙_}
 use mathlib.Core.List.{[]}
 use lib.ListN.{length, take, drop}
-use Rattle.table.specs.Table.{fresh-from}
 use Rattle.table.proofs.Fresh.{fresh-front, fresh-past}
 use Rattle.sheet.proofs.opening.open.Needs as need
 

@@ -13,4 +13,4 @@ returns c =
     let whole : len - 0 ≡ len = omega arith in
     let copied : c .copy-from-slice .last .self ≡ take len text = c .copy-from-slice .ensures .after ∙ ap (λ n. take n text) whole in
     let long : length (c .copy-from-slice .last .self) ≡ len = ap length copied ∙ length-take len text ∙ omega (arith, c .min-len .ensures) in
-    take-at _ _ len long ∙ copied ∙ ap (λ n. take n text) (c .min-len .ensures) ∙ take-min 32 text
+    take-at _ _ len long ∙ copied ∙ ap (λ n. take n text) (c .min-len .ensures) ∙ take-min _ text
