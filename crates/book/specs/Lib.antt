@@ -1,5 +1,6 @@
 pub mod Answers
 pub mod Book
 pub mod Faults
+pub mod Kinds
 pub mod Printed
 pub mod Requests

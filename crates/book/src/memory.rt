@@ -1,14 +1,22 @@
 // The memory that a book lends from: for each sheet 64 points and 128 log entries.
+use conductors::OrdersKind;
+use conductors::Phases;
+use conductors::ThreeConductors;
+use drums::Drums;
+use drums::DrumsKind;
 use kind::Kind;
-use kinds::leads::Ends;
-use kinds::leads::Leads;
-use kinds::leads::LeadsKind;
-use kinds::leads::Turn;
+use leads::Ends;
+use leads::Leads;
+use leads::LeadsKind;
+use leads::Turn;
+use picks::Pick;
 use sheet::Entry;
 use sheet::EntryClone;
 use table::Node;
 use table::NodeClone;
 use table::new_node;
+use temps::Temps;
+use temps::TempsKind;
 
 #[derive(Drop)]
 pub struct SheetMemory<R, S> {
@@ -19,12 +27,18 @@ pub struct SheetMemory<R, S> {
 #[derive(Drop)]
 pub struct Memory {
     pub leads: SheetMemory<Turn, Ends>,
+    pub phases: SheetMemory<u8, u8>,
+    pub drums: SheetMemory<u32, Pick>,
+    pub temps: SheetMemory<u32, Pick>,
 }
 
 impl Memory {
     pub fn new() -> Memory {
         Memory {
             leads: blank::<Leads>(),
+            phases: blank::<Phases>(),
+            drums: blank::<Drums>(),
+            temps: blank::<Temps>(),
         }
     }
 }

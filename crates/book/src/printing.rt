@@ -11,6 +11,7 @@ use crate::answer::Reply;
 use crate::fault::BookFault;
 use std::alloc::AllocError;
 use table::Answer;
+use words::Word;
 
 fn push_byte(out: &mut Vec<u8>, b: u8) -> Result<(), AllocError>
     ensures { λ r. ⌜ made r (λ _. vec-items (now (out .exit)) ≡ vec-items (now (out .entry)) ++ (b ∷ [])) ⌝ }
@@ -28,11 +29,8 @@ fn push_bytes(out: &mut Vec<u8>, bytes: &[u8]) -> Result<(), AllocError>
 fn push_number(out: &mut Vec<u8>, n: u32) -> Result<(), AllocError>
     ensures { λ r. ⌜ made r (λ _. vec-items (now (out .exit)) ≡ vec-items (now (out .entry)) ++ decimal n) ⌝ }
 {
-    if n < 10 {
-        return push_byte(out, b'0' + n as u8);
-    }
-    push_number(out, n / 10)?;
-    push_byte(out, b'0' + (n % 10) as u8)
+    let numeral = Word::decimal(n);
+    push_bytes(out, numeral.as_slice())
 }
 
 fn answer_word(answer: Answer) -> &'static [u8]

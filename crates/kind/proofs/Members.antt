@@ -6,7 +6,7 @@ use mathlib.Core.Logic.{⊎-elim}
 use native.Mathlib.Omega.{arith}
 use native.Mathlib.Nat.{zero-add}
 use Rattle.std.proofs.shelf.Tests.{cases-eq}
-use Rattle.kind.specs.Plain.{members}
+use Rattle.kind.specs.Tally.{members}
 
 pub members-none : (p : ℕ → Bool) (n : ℕ) → ((v : ℕ) → v < n → p v ≡ false) → members p n ≡ 0
 unfolding members

@@ -1,4 +1,2 @@
-pub mod Plain
-pub mod Reading
 pub mod Same
-pub mod Spelt
+pub mod Tally

@@ -8,21 +8,18 @@ ghost use lib.ListN.{length};
 ghost use Rattle.std.specs.Options.{isSome, okOr};
 ghost use Rattle.std.specs.declared.option.Option.{Option};
 ghost use Rattle.std.specs.declared.option.Option.the-variants.{Some};
-ghost use Rattle.kind.specs.Spelt.{spelt};
-ghost use Rattle.kind.specs.Plain.{members, Tallied, all-plain};
+ghost use Rattle.words.specs.Plain.{all-plain};
+ghost use Rattle.words.specs.Spelt.{spelt};
+ghost use Rattle.kind.specs.Tally.{members, Tallied};
 ghost use Rattle.kind.specs.declared.fault.WordFault.the-variants.{NotAWord};
 
-mod bytes;
 mod fault;
-mod text;
-mod word;
 
-pub use bytes::same_bytes;
 pub use fault::WordFault;
 pub use fault::WordFaultDebug;
 pub use fault::WordFaultEq;
 pub use fault::WordFaultPartialEq;
-pub use word::Word;
+use words::Word;
 
 // A kind is a type that stands for it. What the kind means is said by ghost members, each law has a name of its own,
 // and every function gives the value of a ghost member. Every law about values speaks of those below the span.

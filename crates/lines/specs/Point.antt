@@ -3,21 +3,15 @@ use Prim.Native.Nat.{ℕ}
 use mathlib.Core.Bool.{cond}
 use mathlib.Core.List.{List}
 use lib.Dec.{ltb}
-use Rattle.std.specs.Iters.{counting}
-use Rattle.std.specs.Written.{decimal}
 use Rattle.std.specs.declared.option.Option.{Option}
 use Rattle.std.specs.declared.option.Option.the-variants.{Some, None}
-use Rattle.kind.specs.Reading.{first-with}
-
--- the numbers below n, rising
-unfoldable pub below : ℕ → List ℕ
-below n = counting 0 n
-
--- the point that a field writes
-abbrev pub point-of : List ℕ → Option ℕ
-point-of field = first-with decimal (below 256) field
+use Rattle.words.specs.Numbers.{number-named}
 
 -- a number that is a point
 abbrev pub if-point : Option ℕ → Option ℕ
 if-point None = None
 if-point (Some n) = cond (ltb n 256) (Some n) None
+
+-- the point that a field writes
+abbrev pub point-of : List ℕ → Option ℕ
+point-of field = if-point (number-named field)

@@ -10,12 +10,12 @@ use Rattle.std.specs.declared.option.Option.the-variants.{Some, None}
 use Rattle.std.specs.declared.result.Result.{Result}
 use Rattle.std.specs.declared.result.Result.the-variants.{Ok, Err}
 use Rattle.std.specs.shelf.Text.{sameBytes}
-use Rattle.kind.specs.Reading.{first-with}
+use Rattle.words.specs.Reading.{first-with}
 use Rattle.lines.specs.Fields.{fields, two, three}
 use Rattle.lines.specs.declared.fault.LineFault.{LineFault}
 use Rattle.lines.specs.declared.fault.LineFault.the-variants.{Long, Shape}
 use Rattle.lines.specs.declared.line.SheetName.{SheetName}
-use Rattle.lines.specs.declared.line.SheetName.the-variants.{Leads}
+use Rattle.lines.specs.declared.line.SheetName.the-variants.{Leads, Phases, Drums, Temps}
 use Rattle.lines.specs.declared.line.Line.{Line}
 use Rattle.lines.specs.declared.line.Line.the-variants.{Note, See, Ask}
 use Rattle.lines.specs.declared.line.Request.{Request}
@@ -49,9 +49,12 @@ heard r = with heard-of r
 
 abbrev pub sheet-word : SheetName → List ℕ
 sheet-word Leads = codes "leads"
+sheet-word Phases = codes "phases"
+sheet-word Drums = codes "drums"
+sheet-word Temps = codes "temps"
 
 abbrev pub sheet-named : List ℕ → Option SheetName
-sheet-named field = first-with sheet-word (Leads ∷ []) field
+sheet-named field = first-with sheet-word (Leads ∷ Phases ∷ Drums ∷ Temps ∷ []) field
 
 -- what a verb says with the fields that follow it
 abbrev pub said-by : List ℕ → List (List ℕ) → Result Said LineFault

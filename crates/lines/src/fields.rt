@@ -5,7 +5,7 @@ ghost use Rattle.std.specs.Results.{Cases};
 ghost use Rattle.lines.specs.Fields.{remaining, none, two, three, both, all-three};
 ghost use Rattle.lines.specs.declared.fault.LineFault.the-variants.{Shape};
 use crate::fault::LineFault;
-use crate::parts::cut;
+use words::cut;
 
 pub(crate) const TAB: u8 = 9;
 

@@ -3,7 +3,6 @@ mod fault;
 mod fields;
 mod line;
 mod number;
-mod parts;
 mod point;
 
 pub use fault::LineFault;

@@ -9,12 +9,15 @@ use crate::fields::TAB;
 use crate::fields::field;
 use crate::fields::three_fields;
 use crate::fields::two_fields;
-use crate::parts::cut;
-use kind::same_bytes;
+use words::cut;
+use words::same_bytes;
 
 #[derive(Clone, Copy, PartialEq, Eq, Debug)]
 pub enum SheetName {
     Leads,
+    Phases,
+    Drums,
+    Temps,
 }
 
 // What is asked of a sheet; the fields are parts of the text that was read.
@@ -63,6 +66,12 @@ fn read_sheet(name: &[u8]) -> Result<SheetName, LineFault>
 {
     if same_bytes(name, b"leads") {
         Ok(SheetName::Leads)
+    } else if same_bytes(name, b"phases") {
+        Ok(SheetName::Phases)
+    } else if same_bytes(name, b"drums") {
+        Ok(SheetName::Drums)
+    } else if same_bytes(name, b"temps") {
+        Ok(SheetName::Temps)
     } else {
         Err(LineFault::Shape)
     }

@@ -10,10 +10,10 @@ mod tests {
     use book::ReplyDebug;
     use book::ReplyPartialEq;
     use book::print_reply;
-    use kinds::leads::Ends;
-    use kinds::leads::Leads;
-    use kinds::leads::LeadsKind;
-    use kinds::leads::Turn;
+    use leads::Ends;
+    use leads::Leads;
+    use leads::LeadsKind;
+    use leads::Turn;
     use lines::LineFault;
     use lines::LineFaultDebug;
     use lines::LineFaultPartialEq;
@@ -63,14 +63,102 @@ mod tests {
     }
 
     #[test]
-    fn words() -> Result<(), Fail> {
+    fn leads_words() -> Result<(), Fail> {
+        check_eq(refusal(b"leads\tnote\t0\t1\tsame"), 0)?;
+        check_eq(refusal(b"leads\tnote\t0\t1\tcrossed"), 0)?;
         check_eq(refusal(b"leads\tnote\t0\t1\tSame"), 4)?;
         check_eq(refusal(b"leads\tnote\t0\t1\tplus"), 4)?;
+        check_eq(refusal(b"leads\tsee\t0\tplus"), 0)?;
+        check_eq(refusal(b"leads\tsee\t0\tminus"), 0)?;
+        check_eq(refusal(b"leads\tsee\t0\tany"), 0)?;
+        check_eq(refusal(b"leads\tsee\t0\tnone"), 6)?;
         check_eq(refusal(b"leads\tsee\t0\tcrossed"), 4)?;
         check_eq(refusal(b"leads\tsee\t64\tminu"), 4)?;
-        check_eq(refusal(b"leads\tsee\t256\tminu"), 3)?;
-        check_eq(refusal(b"leads\tsee\t0\tany"), 0)?;
-        check_eq(refusal(b"leads\tsee\t0\tnone"), 6)
+        check_eq(refusal(b"leads\tsee\t256\tminu"), 3)
+    }
+
+    #[test]
+    fn phases_relations() -> Result<(), Fail> {
+        check_eq(refusal(b"phases\tnote\t0\t1\t123"), 0)?;
+        check_eq(refusal(b"phases\tnote\t0\t1\t132"), 0)?;
+        check_eq(refusal(b"phases\tnote\t0\t1\t213"), 0)?;
+        check_eq(refusal(b"phases\tnote\t0\t1\t231"), 0)?;
+        check_eq(refusal(b"phases\tnote\t0\t1\t312"), 0)?;
+        check_eq(refusal(b"phases\tnote\t0\t1\t321"), 0)?;
+        check_eq(refusal(b"phases\tnote\t0\t1\t112"), 4)?;
+        check_eq(refusal(b"phases\tnote\t0\t1\t012"), 4)?;
+        check_eq(refusal(b"phases\tnote\t0\t1\t214"), 4)?;
+        check_eq(refusal(b"phases\tnote\t0\t1\t12"), 4)?;
+        check_eq(refusal(b"phases\tnote\t0\t1\t1234"), 4)?;
+        check_eq(refusal(b"phases\tnote\t0\t1\t"), 4)?;
+        check_eq(refusal(b"phases\tnote\t0\t1\tany"), 4)
+    }
+
+    #[test]
+    fn phases_sets() -> Result<(), Fail> {
+        check_eq(refusal(b"phases\tsee\t0\t1"), 0)?;
+        check_eq(refusal(b"phases\tsee\t0\t2"), 0)?;
+        check_eq(refusal(b"phases\tsee\t0\t3"), 0)?;
+        check_eq(refusal(b"phases\tsee\t0\t12"), 0)?;
+        check_eq(refusal(b"phases\tsee\t0\t13"), 0)?;
+        check_eq(refusal(b"phases\tsee\t0\t23"), 0)?;
+        check_eq(refusal(b"phases\tsee\t0\tany"), 0)?;
+        check_eq(refusal(b"phases\tsee\t0\tnone"), 6)?;
+        check_eq(refusal(b"phases\tsee\t0\t123"), 4)?;
+        check_eq(refusal(b"phases\tsee\t0\t21"), 4)?;
+        check_eq(refusal(b"phases\tsee\t0\t11"), 4)?;
+        check_eq(refusal(b"phases\tsee\t0\t4"), 4)?;
+        check_eq(refusal(b"phases\tsee\t0\t"), 4)?;
+        check_eq(refusal(b"phases\tsee\t0\ta"), 4)
+    }
+
+    #[test]
+    fn drums_relations() -> Result<(), Fail> {
+        check_eq(refusal(b"drums\tnote\t0\t1\t1|0"), 0)?;
+        check_eq(refusal(b"drums\tnote\t0\t1\t250|250"), 0)?;
+        check_eq(refusal(b"drums\tnote\t0\t1\t0|4"), 4)?;
+        check_eq(refusal(b"drums\tnote\t0\t1\t251|0"), 4)?;
+        check_eq(refusal(b"drums\tnote\t0\t1\t1|251"), 4)?;
+        check_eq(refusal(b"drums\tnote\t0\t1\t01|2"), 4)?;
+        check_eq(refusal(b"drums\tnote\t0\t1\t1|02"), 4)?;
+        check_eq(refusal(b"drums\tnote\t0\t1\t1|"), 4)?;
+        check_eq(refusal(b"drums\tnote\t0\t1\t|1"), 4)?;
+        check_eq(refusal(b"drums\tnote\t0\t1\t1"), 4)?;
+        check_eq(refusal(b"drums\tnote\t0\t1\t1|2|3"), 4)?;
+        check_eq(refusal(b"drums\tnote\t0\t1\t-1|2"), 4)?;
+        check_eq(refusal(b"drums\tnote\t0\t1\t4294967297|2"), 4)
+    }
+
+    #[test]
+    fn drums_sets() -> Result<(), Fail> {
+        check_eq(refusal(b"drums\tsee\t0\t0"), 0)?;
+        check_eq(refusal(b"drums\tsee\t0\t250"), 0)?;
+        check_eq(refusal(b"drums\tsee\t0\tany"), 0)?;
+        check_eq(refusal(b"drums\tsee\t0\tnone"), 6)?;
+        check_eq(refusal(b"drums\tsee\t0\t251"), 4)?;
+        check_eq(refusal(b"drums\tsee\t0\t00"), 4)?;
+        check_eq(refusal(b"drums\tsee\t0\t-1"), 4)?;
+        check_eq(refusal(b"drums\tsee\t0\t1|0"), 4)
+    }
+
+    #[test]
+    fn temps_words() -> Result<(), Fail> {
+        check_eq(refusal(b"temps\tnote\t0\t1\t0"), 0)?;
+        check_eq(refusal(b"temps\tnote\t0\t1\t2147483647"), 0)?;
+        check_eq(refusal(b"temps\tnote\t0\t1\t-2147483648"), 0)?;
+        check_eq(refusal(b"temps\tnote\t0\t1\t2147483648"), 4)?;
+        check_eq(refusal(b"temps\tnote\t0\t1\t-2147483649"), 4)?;
+        check_eq(refusal(b"temps\tnote\t0\t1\t-0"), 4)?;
+        check_eq(refusal(b"temps\tnote\t0\t1\t+5"), 4)?;
+        check_eq(refusal(b"temps\tnote\t0\t1\t05"), 4)?;
+        check_eq(refusal(b"temps\tnote\t0\t1\t-05"), 4)?;
+        check_eq(refusal(b"temps\tnote\t0\t1\t--5"), 4)?;
+        check_eq(refusal(b"temps\tnote\t0\t1\t-"), 4)?;
+        check_eq(refusal(b"temps\tnote\t0\t1\t"), 4)?;
+        check_eq(refusal(b"temps\tsee\t0\t-1"), 0)?;
+        check_eq(refusal(b"temps\tsee\t0\tany"), 0)?;
+        check_eq(refusal(b"temps\tsee\t0\tnone"), 6)?;
+        check_eq(refusal(b"temps\tsee\t0\t4294967295"), 4)
     }
 
     #[test]
@@ -112,6 +200,69 @@ mod tests {
         check_eq(
             book.enter(b"leads\tlist"),
             Err(BookFault::Read(LineFault::Shape)),
+        )
+    }
+
+    #[test]
+    fn loops_narrow() -> Result<(), Fail> {
+        let mut memory = Memory::new();
+        let mut book = Book::open(&mut memory);
+        check_eq(book.enter(b"drums\tnote\t0\t1\t2|3"), Ok(Reply::Accepted))?;
+        check_eq(book.enter(b"drums\tnote\t0\t1\t4|1"), Ok(Reply::Accepted))?;
+        check_eq(
+            book.enter(b"drums\tsee\t0\t0"),
+            Err(BookFault::Call(Refusal::Contrary)),
+        )?;
+        check_eq(book.enter(b"drums\tsee\t1\t5"), Ok(Reply::Accepted))?;
+        check_eq(
+            book.enter(b"drums\task\t0\t0\t250|2"),
+            Ok(Reply::Answered(Answer::Holds)),
+        )?;
+        check_eq(book.enter(b"phases\tnote\t0\t0\t213"), Ok(Reply::Accepted))?;
+        check_eq(
+            book.enter(b"phases\tsee\t0\t12"),
+            Err(BookFault::Call(Refusal::Contrary)),
+        )?;
+        check_eq(
+            book.enter(b"phases\tnote\t1\t1\t231"),
+            Err(BookFault::Call(Refusal::Contrary)),
+        )
+    }
+
+    #[test]
+    fn offsets_wrap() -> Result<(), Fail> {
+        let mut memory = Memory::new();
+        let mut book = Book::open(&mut memory);
+        check_eq(
+            book.enter(b"temps\tnote\t0\t1\t2147483647"),
+            Ok(Reply::Accepted),
+        )?;
+        check_eq(book.enter(b"temps\tnote\t1\t2\t1"), Ok(Reply::Accepted))?;
+        check_eq(
+            book.enter(b"temps\task\t0\t2\t-2147483648"),
+            Ok(Reply::Answered(Answer::Holds)),
+        )?;
+        check_eq(
+            book.enter(b"temps\task\t2\t0\t-2147483648"),
+            Ok(Reply::Answered(Answer::Holds)),
+        )?;
+        check_eq(
+            book.enter(b"temps\tnote\t2\t2\t1"),
+            Err(BookFault::Call(Refusal::Contrary)),
+        )
+    }
+
+    #[test]
+    fn sheets_are_apart() -> Result<(), Fail> {
+        let mut memory = Memory::new();
+        let mut book = Book::open(&mut memory);
+        check_eq(book.enter(b"drums\tsee\t0\t1"), Ok(Reply::Accepted))?;
+        check_eq(book.enter(b"temps\tsee\t0\t2"), Ok(Reply::Accepted))?;
+        check_eq(book.enter(b"phases\tsee\t0\t3"), Ok(Reply::Accepted))?;
+        check_eq(book.enter(b"leads\tsee\t0\tplus"), Ok(Reply::Accepted))?;
+        check_eq(
+            book.enter(b"drums\tsee\t0\t2"),
+            Err(BookFault::Call(Refusal::Contrary)),
         )
     }
 

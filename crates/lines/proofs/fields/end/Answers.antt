@@ -1,5 +1,5 @@
 use mathlib.Core.Path.{sym}
-use Rattle.lines.proofs.Cuts.{parts-some}
+use Rattle.lines.proofs.Shapes.{parts-some}
 use Rattle.lines.proofs.fields.end.Needs as need
 
 pub returns-in-Some : need.returns-in-Some

@@ -2,7 +2,7 @@ use mathlib.Core.Path.{_≡_, ap, _∙_}
 use Prim.Native.Nat.{_-_, min}
 use native.Mathlib.Omega.{arith}
 use lib.ListN.{length, take}
-use Rattle.kind.proofs.Lists.{take-min}
+use Rattle.words.proofs.Lists.{take-min}
 use Rattle.sheet.proofs.sheet.Sheet.table.Needs as need
 
 pub returns : need.returns

@@ -1,0 +1,13 @@
+mod Digits
+mod Filled
+mod Gathered
+mod Labels
+mod MaskLaws
+mod OrderLaws
+mod OrderNames
+mod OrderNumbers
+mod OrderSteps
+mod PlainWords
+mod Skips
+mod Spelled
+mod Stands

@@ -1,0 +1,4 @@
+use Rattle.conductors.proofs.orders.+place.Given as given
+
+abbrev pub μ-place : given.MeasureT-place
+μ-place l = l .n

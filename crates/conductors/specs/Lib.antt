@@ -1,0 +1,4 @@
+pub mod Masks
+pub mod OrderKind
+pub mod Orders
+pub mod OrderWords

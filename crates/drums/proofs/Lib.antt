@@ -1,0 +1,4 @@
+mod Bars
+mod DrumLaws
+mod DrumWords
+mod Modulo

@@ -1,8 +1,0 @@
--- The bytes of a word.
-use Prim.Native.Nat.{ℕ}
-use mathlib.Core.List.{List}
-use lib.ListN.{take}
-use Rattle.kind.specs.declared.word.Word.{Word}
-
-abbrev pub spelt : Word → List ℕ
-spelt w = take (w .len) (w .bytes)

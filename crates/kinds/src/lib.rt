@@ -1,2 +1,0 @@
-// The kinds of the book.
-pub mod leads;

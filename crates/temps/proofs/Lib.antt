@@ -1,0 +1,2 @@
+mod TempLaws
+mod TempWords
