@@ -20,7 +20,7 @@ use Rattle.kind.specs.declared.Kind.{Ghosts}
 use Rattle.table.specs.Look.{looked}
 use Rattle.table.specs.declared.questions.Answer.the-variants.{Holds, Barred, Open}
 use Rattle.sheet.specs.State.{State, new-sheet}
-use Rattle.sheet.specs.Calls.{Call, Taken, accepted, answered, refused, enter, note, see, ask, called}
+use Rattle.sheet.specs.Calls.{Taken, accepted, answered, refused, enter, note, see, ask, called}
 
 abbrev pub phases : Ghosts (Unit {0}) ℕ ℕ
 phases = orders-kind 3

@@ -7,11 +7,12 @@ use mathlib.Core.Logic.{⊎-elim}
 use native.Mathlib.Omega.{arith}
 use lib.ListN.{length, length-append}
 use Rattle.std.proofs.shelf.Tests.{cases-eq, eq-eqb, ne-eqb, or-from}
+use Rattle.std.proofs.shelf.Ways.{tells}
 use Rattle.kind.specs.Tally.{members}
-use Rattle.words.specs.Plain.{all-plain}
+use Rattle.words.specs.Plain.{plain, all-plain}
+use Rattle.words.proofs.Spelling.{plain-append}
 use Rattle.conductors.specs.OrderWords.{digits, stands}
 use Rattle.conductors.proofs.Stands.{or-none, stands-append}
-use Rattle.conductors.proofs.PlainWords.{digit-plain, plain-append}
 
 -- whether a byte stands in the last digit's part
 last-other : (b d : ℕ) (p : Bool) → (b ≡ d → ⊥) → stands b (cond p (d ∷ []) []) ≡ false
@@ -58,6 +59,9 @@ digits-long p (suc n) =
     length-append (digits p n) _
     ∙ elim (p n) as (λ b. length (digits p n) + length (cond b ((49 + n) ∷ []) []) ≡ cond b 1 0 + members p n)
     [ true ↦ omega (arith, digits-long p n) | false ↦ omega (arith, digits-long p n) ]
+
+pub digit-plain : (v : ℕ) → v < 4 → plain (49 + v) ≡ true
+digit-plain v h = grind (arith, tells)
 
 pub digits-plain : (p : ℕ → Bool) (n : ℕ) → n ≤ 4 → all-plain (digits p n) ≡ true
 unfolding digits

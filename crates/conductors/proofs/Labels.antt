@@ -11,12 +11,13 @@ use lib.ListN.{length}
 use Rattle.std.proofs.shelf.Tests.{eqb-true, eqb-false, or-right, cond-both}
 use Rattle.std.proofs.shelf.Ways.{tells}
 use Rattle.kind.specs.Tally.{members}
+use Rattle.kind.proofs.Members.{members-le}
 use Rattle.words.specs.Plain.{all-plain}
 use Rattle.conductors.specs.Masks.{bit, mask-full}
 use Rattle.conductors.specs.OrderWords.{digits, stands, mask-label, mask-read}
 use Rattle.conductors.proofs.Digits.{stands-other, stands-digit, digits-alike, digits-long, digits-plain}
 use Rattle.conductors.proofs.Stands.{or-none}
-use Rattle.conductors.proofs.MaskLaws.{bit-mod, bit-mask, mask-alike, mask-bits, full-mask, mask-none, members-le}
+use Rattle.conductors.proofs.MaskLaws.{bit-mod, bit-mask, mask-alike, mask-bits, full-mask, mask-none}
 
 -- whether a text, read as a set, has v
 abbrev read : ℕ → List ℕ → Bool

@@ -7,7 +7,6 @@ mod OrderLaws
 mod OrderNames
 mod OrderNumbers
 mod OrderSteps
-mod PlainWords
 mod Skips
 mod Spelled
 mod Stands

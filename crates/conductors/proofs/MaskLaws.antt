@@ -11,6 +11,7 @@ use lib.Dec.{eqb}
 use Rattle.std.proofs.shelf.Bits.{pow-pos, mod-pow-add, field-of, shr-high, mod-low, and-shr, and-mod}
 use Rattle.std.proofs.shelf.Tests.{cases-eq, eqb-true, eq-eqb, and-parts}
 use Rattle.kind.specs.Tally.{members, Tallied}
+use Rattle.kind.proofs.Members.{exact-tally}
 use Rattle.conductors.specs.Masks.{bit, mask, mask-full, mask-inside, mask-count}
 
 lowest : (x i : ℕ) → x % 2 ^ (i + 1) % 2 ≡ x % 2
@@ -117,20 +118,7 @@ pub count-tallies : (n s : ℕ) → n ≤ 4 → Tallied (members (bit s) n) (mas
 count-tallies n s few =
     let e : mask-count n s ≡ members (bit s) n = ap ones (sym (mask-bits s n)) ∙ ones-mask (bit s) n in
     let l : mask-count n s ≤ n = ones-le n (s % 2 ^ n) (mod-lt s (pow-pos n)) in
-    record {
-      none = λ z. omega arith;
-      no-one = λ z. omega arith;
-      single = λ z. omega arith;
-      one-only = λ z. omega arith;
-      few = λ z. omega arith;
-      capped = omega arith;
-    }
-
-pub members-le : (p : ℕ → Bool) (n : ℕ) → members p n ≤ n
-unfolding members
-members-le p zero = omega arith
-members-le p (suc n) =
-    elim (p n) as (λ b. cond b 1 0 + members p n ≤ suc n) [ true ↦ omega (arith, members-le p n) | false ↦ omega (arith, members-le p n) ]
+    exact-tally _ _ (omega arith)
 
 pub mask-none : (p : ℕ → Bool) (n : ℕ) → members p n ≡ 0 → mask p n ≡ 0
 unfolding members mask

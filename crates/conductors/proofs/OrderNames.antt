@@ -14,7 +14,7 @@ use Rattle.conductors.specs.Orders.{takes}
 use Rattle.conductors.specs.OrderWords.{order-word, order-read}
 use Rattle.conductors.proofs.OrderLaws.{takes-below}
 use Rattle.conductors.proofs.OrderNumbers.{itself-takes, numbered-alike}
-use Rattle.conductors.proofs.PlainWords.{digit-plain}
+use Rattle.conductors.proofs.Digits.{digit-plain}
 
 pub order-word-long : (n g : ℕ) → length (order-word n g) ≡ n
 order-word-long n g = length-map-counting (λ v. 49 + takes n g v) 0 n

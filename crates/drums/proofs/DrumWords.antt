@@ -17,7 +17,7 @@ use Rattle.words.specs.Numbers.{number-named}
 use Rattle.words.specs.Parts.{parts}
 use Rattle.words.specs.Plain.{all-plain}
 use Rattle.words.proofs.Numerals.{own, named-number, decimal-named}
-use Rattle.words.proofs.Spelling.{plain-decimal, front-decimal}
+use Rattle.words.proofs.Spelling.{plain-append, plain-decimal, front-decimal}
 use Rattle.picks.proofs.PickWords.{Spelling}
 use Rattle.drums.specs.Drums.{drum-mult, drum-add, drum-number, moved-to, drum-act}
 use Rattle.drums.specs.DrumWords.{with-bar, drum-word, both-named, two-named, drum-named, low-number, value-named}
@@ -101,10 +101,6 @@ drum-word-told g h e =
     let b : drum-add g ≡ drum-add h = omega arith in
     let a : drum-mult g ≡ drum-mult h = omega arith in
     ap (λ x. with-bar x (drum-add g)) a ∙ ap (λ x. with-bar (drum-mult h) x) b
-
-plain-append : (xs ys : List ℕ) → all-plain xs ≡ true → all-plain ys ≡ true → all-plain (xs ++ ys) ≡ true
-plain-append [] ys p q = q
-plain-append (x ∷ xs) ys p q = let r = and-parts _ _ p in and-from _ _ (r .0) (plain-append xs ys (r .1) q)
 
 pub drum-plain : (g : ℕ) → all-plain (drum-word g) ≡ true
 drum-plain g = plain-append (decimal (drum-mult g)) (124 ∷ decimal (drum-add g)) (plain-decimal _ (omega arith)) (plain-decimal (drum-add g) (omega arith))

@@ -1,12 +1,13 @@
--- How many numbers pass a test.
-use Prim.Native.Nat.{ℕ, zero, suc, _+_, _<_}
+-- How many numbers pass a test, and the tally of that.
+use Prim.Native.Nat.{ℕ, zero, suc, _+_, _<_, _≤_, min}
 use mathlib.Core.Path.{_≡_, refl}
 use mathlib.Core.Bool.{Bool, true, false, cond}
 use mathlib.Core.Logic.{⊎-elim}
 use native.Mathlib.Omega.{arith}
 use native.Mathlib.Nat.{zero-add}
-use Rattle.std.proofs.shelf.Tests.{cases-eq}
-use Rattle.kind.specs.Tally.{members}
+use lib.Dec.{eqb}
+use Rattle.std.proofs.shelf.Tests.{cases-eq, eq-eqb, ne-eqb}
+use Rattle.kind.specs.Tally.{members, Tallied}
 
 pub members-none : (p : ℕ → Bool) (n : ℕ) → ((v : ℕ) → v < n → p v ≡ false) → members p n ≡ 0
 unfolding members
@@ -44,3 +45,40 @@ some-passes p (suc n) h = found (p n) refl (some-passes p n)
     found false e below =
         let rest = below (λ z. h (rw (e, zero-add) z)) in
         (rest .0, omega (arith, rest .1), rest .2)
+
+pub members-all : (n : ℕ) → members (λ _. true) n ≡ n
+unfolding members
+members-all zero = refl
+members-all (suc n) = let r = members-all n in omega arith
+
+pub members-one : (a n : ℕ) → a < n → members (eqb a) n ≡ 1
+unfolding members
+members-one a zero lt = absurd (omega arith)
+members-one a (suc n) lt =
+    ⊎-elim
+    (λ e.
+    let here = eq-eqb a n e in
+    let rest = members-none (eqb a) n (λ v low. ne-eqb a v (λ s. omega arith)) in
+    rw here (omega arith))
+    (λ e.
+    let here = ne-eqb a n e in
+    let rest = members-one a n (omega arith) in
+    rw (here, zero-add) rest)
+    (cases-eq a n)
+
+pub members-le : (p : ℕ → Bool) (n : ℕ) → members p n ≤ n
+unfolding members
+members-le p zero = omega arith
+members-le p (suc n) =
+    elim (p n) as (λ b. cond b 1 0 + members p n ≤ suc n) [ true ↦ omega (arith, members-le p n) | false ↦ omega (arith, members-le p n) ]
+
+-- a tally that is exact up to 255, and 256 for more
+pub exact-tally : (size t : ℕ) → t ≡ min size 256 → Tallied size t
+exact-tally size t e = record {
+  none = λ z. omega arith;
+  no-one = λ z. omega arith;
+  single = λ z. omega arith;
+  one-only = λ z. omega arith;
+  few = λ z. omega arith;
+  capped = omega arith;
+}

@@ -1,47 +1,17 @@
 -- The laws of sets of none, one or all of the numbers below m, of which there are two at least.
-use Prim.Native.Nat.{ℕ, zero, suc, _<_, _≤_, _%_, min}
+use Prim.Native.Nat.{ℕ, _<_, _≤_, _%_}
 use mathlib.Core.Path.{_≡_, refl, ap, sym, _∙_}
 use mathlib.Core.Bool.{true, false}
 use mathlib.Core.Logic.{⊎-elim}
 use native.Mathlib.Omega.{arith}
-use native.Mathlib.Nat.{mod-lt, mod-eq-of-lt, zero-add}
+use native.Mathlib.Nat.{mod-lt, mod-eq-of-lt}
 use lib.Dec.{eqb}
 use Rattle.std.proofs.shelf.Tests.{cases-eq, eq-eqb, ne-eqb, eqb-true}
 use Rattle.kind.specs.Tally.{members, Tallied}
-use Rattle.kind.proofs.Members.{members-none}
+use Rattle.kind.proofs.Members.{members-none, members-all, members-one, exact-tally}
 use Rattle.picks.specs.Picks.{pick-has, pick-shift, pick-inside, pick-count}
 use Rattle.picks.specs.declared.Pick.{Pick}
 use Rattle.picks.specs.declared.Pick.the-variants.{Nothing, One, Any}
-
-members-all : (n : ℕ) → members (λ _. true) n ≡ n
-unfolding members
-members-all zero = refl
-members-all (suc n) = let r = members-all n in omega arith
-
-members-one : (a n : ℕ) → a < n → members (eqb a) n ≡ 1
-unfolding members
-members-one a zero lt = absurd (omega arith)
-members-one a (suc n) lt =
-    ⊎-elim
-    (λ e.
-    let here = eq-eqb a n e in
-    let rest = members-none (eqb a) n (λ v low. ne-eqb a v (λ s. omega arith)) in
-    rw here (omega arith))
-    (λ e.
-    let here = ne-eqb a n e in
-    let rest = members-one a n (omega arith) in
-    rw (here, zero-add) rest)
-    (cases-eq a n)
-
-tally-up-to-256 : (size t : ℕ) → t ≡ min size 256 → Tallied size t
-tally-up-to-256 size t e = record {
-  none = λ z. omega arith;
-  no-one = λ z. omega arith;
-  single = λ z. omega arith;
-  one-only = λ z. omega arith;
-  few = λ z. omega arith;
-  capped = omega arith;
-}
 
 -- tests that follow from each other are equal
 pub same-test : (a b c d : ℕ) → (a ≡ b → c ≡ d) → (c ≡ d → a ≡ b) → eqb a b ≡ eqb c d
@@ -74,6 +44,6 @@ module _ (m : ℕ) (big : 2 ≤ m) where
   pick-all-inside Any Any h = refl
 
   pub pick-count-tells : (s : Pick) → Tallied (members (pick-has m s) m) (pick-count m s)
-  pick-count-tells Nothing = let e = members-none (λ _. false) m (λ v lt. refl) in tally-up-to-256 _ _ (omega arith)
-  pick-count-tells (One a) = let e = members-one (a % m) m (residue-low a) in tally-up-to-256 _ _ (omega arith)
-  pick-count-tells Any = let e = members-all m in tally-up-to-256 _ _ (omega arith)
+  pick-count-tells Nothing = let e = members-none (λ _. false) m (λ v lt. refl) in exact-tally _ _ (omega arith)
+  pick-count-tells (One a) = let e = members-one (a % m) m (residue-low a) in exact-tally _ _ (omega arith)
+  pick-count-tells Any = let e = members-all m in exact-tally _ _ (omega arith)

@@ -1,11 +1,13 @@
--- What is read has the field for its word.
+-- What is read has the field for its word, and what has it is read.
 use Prim.Native.Nat.{ℕ}
-use mathlib.Core.Path.{_≡_, refl}
+use mathlib.Core.Path.{_≡_, refl, sym, ap}
 use mathlib.Core.Bool.{Bool, true, false, cond}
 use mathlib.Core.List.{List, [], _∷_}
 use native.Mathlib.Omega.{arith}
+use Rattle.std.specs.Options.{isSome}
 use Rattle.std.specs.shelf.Text.{sameBytes}
 use Rattle.std.proofs.shelf.Equals.{sameBytes-decides}
+use Rattle.std.proofs.shelf.Tests.{cond-true}
 use Rattle.std.specs.declared.option.Option.the-variants.{Some}
 use Rattle.words.specs.Reading.{first-with}
 
@@ -19,3 +21,7 @@ first-with-word word (y ∷ ys) field x e = chosen (sameBytes field (word y)) re
         let is : y ≡ x = cc in
         cc
     chosen false same here rest = rest here
+
+-- what has the field for its word is found
+pub first-with-itself : {X : Type 0} (word : X → List ℕ) (x : X) (field : List ℕ) → word x ≡ field → isSome (first-with word (x ∷ []) field) ≡ true
+first-with-itself word x field e = ap isSome (cond-true _ _ _ (sameBytes-decides field (word x) .1 (sym e)))

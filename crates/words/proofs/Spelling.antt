@@ -11,6 +11,7 @@ use lib.Signed.{leZ}
 use Rattle.std.proofs.shelf.Decimals.{decimal-some, decimal-digit, decimal-step, length-decimal-le, digits-decimal}
 use Rattle.std.proofs.shelf.Lists.{drop-set, take-all}
 use Rattle.std.proofs.shelf.Numerals.{digit-from-value, digit-at}
+use Rattle.std.proofs.shelf.Tests.{and-parts, and-from}
 use Rattle.std.proofs.shelf.Ways.{tells}
 use Rattle.std.specs.Reads.{Digits}
 use Rattle.std.specs.Written.{decimal, signed}
@@ -69,6 +70,10 @@ minus-first (pos n) sign digits h low s d = search needs
 minus-first (negsuc n) sign digits h low s d =
     ap (take 32) (ap (λ l. l ++ digits) s ∙ ap (λ l. 45 ∷ l) d)
     ∙ take-all 32 (45 ∷ decimal (suc n)) (omega (arith, length-decimal-le 10 (suc n) (omega arith) (omega arith) (omega arith)))
+
+pub plain-append : (xs ys : List ℕ) → all-plain xs ≡ true → all-plain ys ≡ true → all-plain (xs ++ ys) ≡ true
+plain-append [] ys p q = q
+plain-append (x ∷ xs) ys p q = let both = and-parts _ _ p in and-from _ _ (both .0) (plain-append xs ys (both .1) q)
 
 plain-digits : (ds : List ℕ) → Digits 10 ds → all-plain ds ≡ true
 plain-digits [] h = refl

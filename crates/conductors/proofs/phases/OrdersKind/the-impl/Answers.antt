@@ -5,13 +5,12 @@ use native.Mathlib.Omega.{arith}
 use Rattle.conductors.specs.Orders.{takes, brings}
 use Rattle.conductors.specs.Masks.{bit}
 use Rattle.conductors.specs.OrderWords.{order-word, order-read, mask-label, mask-read}
-use Rattle.words.proofs.Reading.{first-with-word}
+use Rattle.words.proofs.Reading.{first-with-word, first-with-itself}
 use Rattle.conductors.proofs.OrderLaws.{takes-below, takes-unit, takes-brings, brings-takes}
 use Rattle.conductors.proofs.OrderNumbers.{comp-takes, inv-takes}
 use Rattle.conductors.proofs.MaskLaws.{bit-mask, bit-and, full-mask, inside-each, each-inside, count-tallies}
 use Rattle.conductors.proofs.OrderNames.{order-word-long, order-word-plain, order-word-tells, order-word-told, order-word-read}
 use Rattle.conductors.proofs.Labels.{label-long, label-plain, label-tells, label-told, label-read}
-use Rattle.conductors.proofs.PlainWords.{first-with-itself}
 use Rattle.conductors.proofs.phases.OrdersKind.the-impl.Needs as need
 
 pub closed-law : need.closed-law
