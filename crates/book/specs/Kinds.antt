@@ -5,7 +5,7 @@ use Rattle.leads.specs.declared.Leads.{Leads}
 use Rattle.leads.specs.declared.Turn.{Turn}
 use Rattle.leads.specs.declared.Ends.{Ends}
 use Rattle.leads.specs.contracts.LeadsKind.the-impl.{ghosts as leads}
-use Rattle.conductors.specs.declared.count.Three.{Three}
+use Rattle.conductors.specs.declared.three.Three.{Three}
 use Rattle.conductors.specs.declared.phases.Orders.{Orders}
 use Rattle.conductors.specs.OrderKind.{orders-kind}
 use Rattle.picks.specs.declared.Pick.{Pick}

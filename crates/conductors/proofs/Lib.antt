@@ -7,6 +7,8 @@ mod OrderLaws
 mod OrderNames
 mod OrderNumbers
 mod OrderSteps
+mod Rounds
 mod Skips
 mod Spelled
 mod Stands
+mod Threes

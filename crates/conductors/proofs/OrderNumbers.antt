@@ -74,11 +74,11 @@ numbered-alike (suc m) f g e =
     λ i. first i % suc m + suc m * rest i
 
 -- how many orders n conductors have
-abbrev orders : ℕ → ℕ
+abbrev pub orders : ℕ → ℕ
 orders zero = 1
 orders (suc m) = suc m * orders m
 
-numbered-below : (n : ℕ) (f : ℕ → ℕ) → numbered n f < orders n
+pub numbered-below : (n : ℕ) (f : ℕ → ℕ) → numbered n f < orders n
 unfolding numbered
 numbered-below zero f = omega arith
 numbered-below (suc m) f =

@@ -1,8 +1,11 @@
 // How many conductors there are.
 ghost use Prim.Native.Nat.{ℕ, _<_, _≤_};
 ghost use mathlib.Core.Path.{_≡_};
+ghost use Rattle.conductors.specs.Orders.{order-comp, order-inv};
+use crate::orders::composed;
+use crate::orders::inverted;
 
-// A type that stands for so many conductors.
+// A number of conductors. It may have a quicker way to compose its orders than the one for every number.
 pub trait Conductors {
     ghost many: { ℕ };
 
@@ -12,14 +15,18 @@ pub trait Conductors {
 
     fn number() -> u8
         ensures { λ r. ⌜ r ≡ many ⌝ };
-}
 
-pub struct Three;
+    // The order that does h, and then g.
+    fn after(g: u8, h: u8) -> u8
+        ensures { λ r. ⌜ r ≡ order-comp many g h ⌝ }
+    {
+        composed(Self::number(), g, h)
+    }
 
-pub impl Conductors for Three as ThreeConductors {
-    ghost many = { 3 };
-
-    fn number() -> u8 {
-        3
+    // The order that undoes g.
+    fn undoing(g: u8) -> u8
+        ensures { λ r. ⌜ r ≡ order-inv many g ⌝ }
+    {
+        inverted(Self::number(), g)
     }
 }

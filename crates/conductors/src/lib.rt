@@ -4,10 +4,11 @@ mod masks;
 mod orders;
 mod phases;
 mod spelling;
+mod three;
 
 pub use count::Conductors;
-pub use count::Three;
-pub use count::ThreeConductors;
 pub use phases::Orders;
 pub use phases::OrdersKind;
 pub use phases::Phases;
+pub use three::Three;
+pub use three::ThreeConductors;

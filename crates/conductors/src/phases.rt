@@ -4,18 +4,16 @@ ghost use Rattle.conductors.specs.Orders.{takes, order-comp, order-inv};
 ghost use Rattle.conductors.specs.Masks.{bit, mask-full, mask-shift, mask-fixed, mask-inside, mask-count};
 ghost use Rattle.conductors.specs.OrderWords.{order-word, order-named, mask-label, mask-labelled};
 use crate::count::Conductors;
-use crate::count::Three;
 use crate::masks::everything;
 use crate::masks::includes;
 use crate::masks::shifted;
 use crate::masks::size;
 use crate::masks::unmoved;
-use crate::orders::composed;
-use crate::orders::inverted;
 use crate::spelling::mask_word;
 use crate::spelling::order_word;
 use crate::spelling::read_mask;
 use crate::spelling::read_order;
+use crate::three::Three;
 use kind::Kind;
 use kind::WordFault;
 use std::marker::PhantomData;
@@ -83,11 +81,11 @@ pub impl<C: Conductors> Kind for Orders<C> as OrdersKind {
     }
 
     fn after(g: u8, h: u8) -> u8 {
-        composed(C::number(), g, h)
+        C::after(g, h)
     }
 
     fn inverse(g: u8) -> u8 {
-        inverted(C::number(), g)
+        C::undoing(g)
     }
 
     fn all() -> u8 {
