@@ -1,6 +1,10 @@
 // Examples of lines with what the book answers, and of calls on a sheet.
+mod two;
+
 #[cfg(test)]
 mod tests {
+    use crate::two::Two;
+    use crate::two::TwoConductors;
     use book::Book;
     use book::BookFault;
     use book::BookFaultDebug;
@@ -10,6 +14,15 @@ mod tests {
     use book::ReplyDebug;
     use book::ReplyPartialEq;
     use book::print_reply;
+    use conductors::Orders;
+    use conductors::OrdersKind;
+    use drums::Drum;
+    use drums::Drums;
+    use drums::DrumsKind;
+    use kind::Kind;
+    use kind::WordFaultDebug;
+    use layers::FarEnd;
+    use layers::FarEndKind;
     use leads::Ends;
     use leads::Leads;
     use leads::LeadsKind;
@@ -17,6 +30,7 @@ mod tests {
     use lines::LineFault;
     use lines::LineFaultDebug;
     use lines::LineFaultPartialEq;
+    use picks::Pick;
     use sheet::Entry;
     use sheet::EntryClone;
     use sheet::Refusal;
@@ -291,5 +305,42 @@ mod tests {
         check_eq(sheet.note(8, 0, Turn::Same), Err(Refusal::OffSheet))?;
         let left = sheet.look(0)?;
         check(left.minus && !left.plus)
+    }
+
+    #[test]
+    fn on_a_drums_sheet() -> Result<(), Fail> {
+        let node = new_node::<FarEnd<Drums>>(0);
+        let mut nodes = [node; 2];
+        let mut log = [Entry { point: 0, node }; 2];
+        let mut sheet = sheet::open::<FarEnd<Drums>>(&mut nodes, &mut log, 2);
+        let twice = Drum {
+            multiplier: 2,
+            addend: 3,
+        };
+        let fourfold = Drum {
+            multiplier: 4,
+            addend: 1,
+        };
+        check_eq(sheet.note(0, 1, twice.number()), Ok(()))?;
+        check_eq(sheet.note(0, 1, fourfold.number()), Ok(()))?;
+        let one = FarEnd::<Drums>::set_word(sheet.look(0)?);
+        check(one.as_slice() == b"1")?;
+        let five = FarEnd::<Drums>::set_word(sheet.look(1)?);
+        check(five.as_slice() == b"5")
+    }
+
+    #[test]
+    fn two_conductors() -> Result<(), Fail> {
+        let node = new_node::<Orders<Two>>(0);
+        let mut nodes = [node; 3];
+        let mut log = [Entry { point: 0, node }; 2];
+        let mut sheet = sheet::open::<Orders<Two>>(&mut nodes, &mut log, 4);
+        let swapped = Orders::<Two>::read_relation(b"21")?;
+        check_eq(sheet.note(0, 1, swapped), Ok(()))?;
+        check_eq(sheet.note(1, 2, swapped), Ok(()))?;
+        check_eq(sheet.ask(0, 2, swapped), Ok(Answer::Barred))?;
+        check_eq(sheet.see(2, Orders::<Two>::read_set(b"2")?), Ok(()))?;
+        let left = Orders::<Two>::set_word(sheet.look(0)?);
+        check(left.as_slice() == b"2")
     }
 }
