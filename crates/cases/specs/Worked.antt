@@ -1,8 +1,10 @@
 -- Worked cases of orders, drums, offsets and new sheets, in one table.
 use Prim.Native.Nat.{ℕ}
 use mathlib.Core.Path.{_≡_}
-use mathlib.Core.Bool.{true, false}
+use mathlib.Core.Bool.{Bool, true, false, _&&_}
+use mathlib.Core.List.{List, [], _∷_}
 use lib.Chars.{codes}
+use Rattle.std.specs.Options.{isSome}
 use Rattle.std.specs.Written.{decimal}
 use Rattle.leads.specs.declared.Leads.{Leads}
 use Rattle.leads.specs.declared.Turn.{Turn}
@@ -44,7 +46,20 @@ asked-of-12 g = called phases (called phases new-phases (enter (see 0 (mask-read
 abbrev pub both-plus : State Turn Ends
 both-plus = called leads (called leads new-leads (enter (see 0 (ends true false))) .left) (enter (see 1 (ends true false))) .left
 
+-- every text of the list passes
+abbrev pub each : (List ℕ → Bool) → List (List ℕ) → Bool
+each p [] = true
+each p (w ∷ ws) = p w && each p ws
+
+abbrev pub six-orders : List (List ℕ)
+six-orders = codes "123" ∷ codes "132" ∷ codes "213" ∷ codes "231" ∷ codes "312" ∷ codes "321" ∷ []
+
+abbrev pub eight-sets : List (List ℕ)
+eight-sets = codes "none" ∷ codes "1" ∷ codes "2" ∷ codes "12" ∷ codes "3" ∷ codes "13" ∷ codes "23" ∷ codes "any" ∷ []
+
 pub record Worked : Type 0 where
+  pub orders-read : each (λ w. isSome (phases .named w)) six-orders ≡ true
+  pub sets-read : each (λ w. isSome (phases .labelled w)) eight-sets ≡ true
   pub order-after : phases .word (phases .comp (order-read 3 (codes "231")) (order-read 3 (codes "213"))) ≡ codes "321"
   pub order-before : phases .word (phases .comp (order-read 3 (codes "213")) (order-read 3 (codes "231"))) ≡ codes "132"
   pub order-inverse : phases .word (phases .inv (order-read 3 (codes "231"))) ≡ codes "312"

@@ -20,6 +20,9 @@ pub use drum::Drum;
 // The greatest value.
 const LAST: u32 = 250;
 
+// The set of every value.
+const EVERY: Pick = Pick::Any;
+
 pub struct Drums;
 
 // A relation is a number, which stands for the drum relation made from it.
@@ -81,7 +84,7 @@ pub impl Kind for Drums as DrumsKind {
     }
 
     fn all() -> Pick {
-        Pick::Any
+        EVERY
     }
 
     fn common(s: Pick, t: Pick) -> Pick {

@@ -13,6 +13,9 @@ use words::read_number;
 // The greatest value.
 const LAST: u32 = 4294967295;
 
+// The set of every value.
+const EVERY: Pick = Pick::Any;
+
 // The values from here on are written below zero.
 const HALF: u32 = 2147483648;
 
@@ -107,7 +110,7 @@ pub impl Kind for Temps as TempsKind {
     }
 
     fn all() -> Pick {
-        Pick::Any
+        EVERY
     }
 
     fn common(s: Pick, t: Pick) -> Pick {
@@ -122,7 +125,7 @@ pub impl Kind for Temps as TempsKind {
     }
 
     fn still(g: u32) -> Pick {
-        if g == 0 { Pick::Any } else { Pick::Nothing }
+        if g == 0 { EVERY } else { Pick::Nothing }
     }
 
     fn within(s: Pick, t: Pick) -> bool {

@@ -20,6 +20,8 @@ returns c =
     λ a b p q i. decimal-is 3 a (lit< tt) p (omega arith) i ++ (124 ∷ decimal-is 3 b (lit< tt) q (omega arith) i) in
     let lowest : 45 ∷ decimal 2147483648 ≡ codes "-2147483648" = ap (λ ds. 45 ∷ ds) (decimal-is 10 2147483648 (lit< tt) (lit< tt) (lit< tt)) in
     record {
+      orders-read = refl;
+      sets-read = refl;
       order-after = refl;
       order-before = refl;
       order-inverse = refl;
