@@ -1,5 +1,6 @@
 // The book: a sheet for each kind, and lines answered on them.
 ghost use mathlib.Core.Path.{_≡_};
+ghost use denote.Ref.{name};
 ghost use Rattle.sheet.specs.State.{new-sheet};
 ghost use Rattle.sheet.specs.View.{view};
 ghost use Rattle.book.specs.Answers.{replied};
@@ -64,6 +65,14 @@ impl<'a> Book<'a> {
         ensures step { λ r. ⌜ Book-step (book-view (now (self .entry))) (now (text .entry)) (replied r) (book-view (now (self .exit))) ⌝ }
         ensures unchanged { λ r. ⌜ Book-unchanged r (now (self .entry)) (now (self .exit)) ⌝ }
         ensures frame { λ _. ⌜ Book-frame (now (self .entry)) (now (self .exit)) ⌝ }
+        ensures leads_nodes { λ _. ⌜ name (now (self .exit) .leads .nodes) ≡ name (now (self .entry) .leads .nodes) ⌝ }
+        ensures leads_log { λ _. ⌜ name (now (self .exit) .leads .log) ≡ name (now (self .entry) .leads .log) ⌝ }
+        ensures phases_nodes { λ _. ⌜ name (now (self .exit) .phases .nodes) ≡ name (now (self .entry) .phases .nodes) ⌝ }
+        ensures phases_log { λ _. ⌜ name (now (self .exit) .phases .log) ≡ name (now (self .entry) .phases .log) ⌝ }
+        ensures drums_nodes { λ _. ⌜ name (now (self .exit) .drums .nodes) ≡ name (now (self .entry) .drums .nodes) ⌝ }
+        ensures drums_log { λ _. ⌜ name (now (self .exit) .drums .log) ≡ name (now (self .entry) .drums .log) ⌝ }
+        ensures temps_nodes { λ _. ⌜ name (now (self .exit) .temps .nodes) ≡ name (now (self .entry) .temps .nodes) ⌝ }
+        ensures temps_log { λ _. ⌜ name (now (self .exit) .temps .log) ≡ name (now (self .entry) .temps .log) ⌝ }
     {
         let request = read_line(text)?;
         match request.sheet {
