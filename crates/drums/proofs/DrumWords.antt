@@ -17,6 +17,7 @@ use Rattle.words.specs.Numbers.{number-named}
 use Rattle.words.specs.Parts.{parts}
 use Rattle.words.specs.Plain.{all-plain}
 use Rattle.words.proofs.Numerals.{own, named-number, decimal-named}
+use Rattle.words.proofs.Reading.{unread}
 use Rattle.words.proofs.Spelling.{plain-append, plain-decimal, front-decimal}
 use Rattle.picks.proofs.PickWords.{Spelling}
 use Rattle.drums.specs.Drums.{drum-mult, drum-add, drum-number, moved-to, drum-act}
@@ -27,7 +28,7 @@ use Rattle.drums.proofs.DrumLaws.{mult-some, mult-low, add-low, number-mult, n
 -- what a test lets through
 let-through : (t : Bool) (n g : ℕ) → cond t (Some n) None ≡ Some g → (t ≡ true) × (n ≡ g)
 let-through true n g e = (refl, cc)
-let-through false n g e = let z : _≡_ {A = ℕ} 0 1 = cc in absurd (omega arith)
+let-through false n g e = unread e
 
 short : (n : ℕ) → n ≤ 250 → length (decimal n) ≤ 3
 short n low = length-decimal-le 3 n (omega arith) (omega arith) (omega arith)
@@ -46,7 +47,7 @@ values = record {
 }
   where
     read : (field : List ℕ) (x : Option ℕ) → number-named field ≡ x → (v : ℕ) → low-number x ≡ Some v → (v < 251) × (decimal v ≡ field)
-    read field None is v e = let z : _≡_ {A = ℕ} 0 1 = cc in absurd (omega arith)
+    read field None is v e = unread e
     read field (Some n) is v e =
         let r = let-through (leb n 250) n v e in
         let low = leb-true n 250 (r .0) in
@@ -109,8 +110,8 @@ pub drum-named-word : (field : List ℕ) (g : ℕ) → drum-named field ≡ Some
 drum-named-word field g e = two (parts 124 field) (parts-whole field) e
   where
     both : (p q : List ℕ) (x y : Option ℕ) → number-named p ≡ x → number-named q ≡ y → both-named x y ≡ Some g → drum-word g ≡ p ++ (124 ∷ q)
-    both p q None y m n e = let z : _≡_ {A = ℕ} 0 1 = cc in absurd (omega arith)
-    both p q (Some a) None m n e = let z : _≡_ {A = ℕ} 0 1 = cc in absurd (omega arith)
+    both p q None y m n e = unread e
+    both p q (Some a) None m n e = unread e
     both p q (Some a) (Some b) m n e =
         let r = let-through _ (drum-number a b) g e in
         let some = and-parts _ _ (r .0) in
@@ -120,7 +121,7 @@ drum-named-word field g e = two (parts 124 field) (parts-whole field) e
         ∙ ap (with-bar a) (number-add a b small) ∙ ap (λ l. l ++ (124 ∷ decimal b)) (named-number p a m .0) ∙ ap (λ l. p ++ (124 ∷ l)) (named-number q b n .0)
 
     two : (ps : List (List ℕ)) → with-bar-all ps ≡ 124 ∷ field → two-named ps ≡ Some g → drum-word g ≡ field
-    two [] w e = let z : _≡_ {A = ℕ} 0 1 = cc in absurd (omega arith)
-    two (p ∷ []) w e = let z : _≡_ {A = ℕ} 0 1 = cc in absurd (omega arith)
+    two [] w e = unread e
+    two (p ∷ []) w e = unread e
     two (p ∷ q ∷ []) w e = let z = append-nil q in both p q (number-named p) (number-named q) refl refl e ∙ cc
-    two (p ∷ q ∷ r ∷ rs) w e = let z : _≡_ {A = ℕ} 0 1 = cc in absurd (omega arith)
+    two (p ∷ q ∷ r ∷ rs) w e = unread e

@@ -1,14 +1,14 @@
 -- Arithmetic modulo m, and inverses modulo 251.
-use Prim.Native.Nat.{ℕ, zero, suc, _+_, _-_, _*_, _/_, _%_, _^_, _≤_}
+use Prim.Native.Nat.{ℕ, _+_, _-_, _*_, _/_, _%_, _^_, _≤_}
 use mathlib.Core.Path.{_≡_, refl, ap, sym, _∙_}
-use mathlib.Core.Bool.{Bool, true, _&&_}
+use mathlib.Core.Bool.{true}
 use mathlib.Core.Logic.{⊎-elim}
 use native.Mathlib.Omega.{arith}
 use native.Mathlib.Nat.{mul-comm, mul-assoc, add-mul, mul-zero, one-mul, mod-lt, mod-mod, add-mod, div-add-mod, mul-add-mod-self-left, pow-zero, pow-suc}
-use lib.Dec.{eqb, lit<}
+use lib.Dec.{lit<}
 use Rattle.std.proofs.shelf.Bits.{pow-add}
 use Rattle.std.proofs.shelf.Tests.{cases-eq}
-use Rattle.std.proofs.shelf.Ways.{decides-eqb, decides-below-and}
+use Rattle.kind.proofs.Tried.{tried, tried-all}
 use Rattle.drums.specs.Drums.{inverse251}
 
 module _ (m : ℕ) where
@@ -48,24 +48,19 @@ module _ (m : ℕ) where
   fourth-power : (a k x y : ℕ) → Like x (a ^ k) → y ≡ squared-twice x → Like y (a ^ (k + k + (k + k)))
   fourth-power a k x y p e = let s = powers a k k x x p p in ap (λ z. z % m) e ∙ powers a (k + k) (k + k) (x * x % m) (x * x % m) s s
 
--- p passes below n
-below : (ℕ → Bool) → ℕ → Bool
-below p zero = true
-below p (suc n) = p n && below p n
+-- a times its power to 249, where a is k + 1
+abbrev back-to-one : ℕ → ℕ
+back-to-one k = (k + 1) * ((k + 1) ^ 249 % 251) % 251
 
-right : ℕ → Bool
-right k = eqb ((k + 1) * ((k + 1) ^ 249 % 251) % 251) 1
-
-tested : below right 250 ≡ true
-unfolding below right
-tested = refl
+each-back : tried back-to-one (λ k. 1) 250 ≡ true
+unfolding tried
+each-back = refl
 
 pub inverse-is : (a : ℕ) → 1 ≤ a → a ≤ 250 → a * inverse251 a % 251 ≡ 1
-unfolding inverse251 below right
+unfolding inverse251
 inverse-is a some low =
     let k : a - 1 + 1 ≡ a = omega arith in
-    let all = decides-below-and right (λ k. (k + 1) * ((k + 1) ^ 249 % 251) % 251 ≡ 1) (below right) (λ k. decides-eqb _ _) refl (λ _. refl) 250 .0 tested in
-    rw k at (all (a - 1) (omega arith))
+    rw k at (tried-all back-to-one (λ k. 1) 250 each-back (a - 1) (omega arith))
 
 pub inverse-low : (a : ℕ) → inverse251 a ≤ 250
 unfolding inverse251

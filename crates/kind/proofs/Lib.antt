@@ -1,3 +1,4 @@
 pub mod Alike
 pub mod Lawful
 pub mod Members
+pub mod Tried

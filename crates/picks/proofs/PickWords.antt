@@ -15,6 +15,7 @@ use Rattle.std.specs.declared.option.Option.the-variants.{Some, None}
 use Rattle.std.proofs.shelf.Equals.{sameBytes-decides}
 use Rattle.std.proofs.shelf.Tests.{eq-eqb, eqb-true, both-ways, cond-both}
 use Rattle.words.specs.Plain.{all-plain}
+use Rattle.words.proofs.Reading.{unread}
 use Rattle.picks.specs.Picks.{pick-has, pick-label, pick-read, pick-labelled}
 use Rattle.picks.specs.declared.Pick.{Pick}
 use Rattle.picks.specs.declared.Pick.the-variants.{Nothing, One, Any}
@@ -88,7 +89,7 @@ module _ {m wide : ℕ} {spell : ℕ → List ℕ} {named : List ℕ → Option 
       told t is e = let same : t ≡ s = cc in ap (pick-label m spell) (sym same) ∙ is
 
       value : (v : Option ℕ) → named field ≡ v → Reads (mapped One v)
-      value None is e = let z : _≡_ {A = ℕ} 0 1 = cc in absurd (omega arith)
+      value None is e = unread e
       value (Some v) is e =
           let r = spelling .read field v is in
           told (One v) (ap spell (mod-eq-of-lt (r .0)) ∙ r .1) e

@@ -16,6 +16,7 @@ use Rattle.std.proofs.shelf.Tests.{cases-lt, lt-ltb, le-ltb, le-leb, ltb-true, 
 use Rattle.words.specs.Numbers.{number-named}
 use Rattle.words.specs.Plain.{all-plain}
 use Rattle.words.proofs.Numerals.{own, named-number, decimal-named}
+use Rattle.words.proofs.Reading.{unread}
 use Rattle.words.proofs.Spelling.{plain-decimal, front-decimal}
 use Rattle.picks.proofs.PickWords.{Spelling}
 use Rattle.temps.specs.Temps.{temp-spelt, if-above, if-below, temp-named}
@@ -45,7 +46,7 @@ abbrev Reads : List ℕ → Option ℕ → Type 0
 Reads field o = (v : ℕ) → o ≡ Some v → (v < 4294967296) × (temp-spelt v ≡ field)
 
 reads-none : (field : List ℕ) → Reads field None
-reads-none field v e = let z : _≡_ {A = ℕ} 0 1 = cc in absurd (omega arith)
+reads-none field v e = unread e
 
 reads-some : (field : List ℕ) (w : ℕ) → w < 4294967296 → temp-spelt w ≡ field → Reads field (Some w)
 reads-some field w low is v e = let same : w ≡ v = cc in (omega arith, ap temp-spelt (sym same) ∙ is)

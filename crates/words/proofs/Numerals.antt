@@ -19,7 +19,7 @@ use Rattle.std.specs.Text.{In, digitValue}
 use Rattle.std.specs.Written.{decimal}
 use Rattle.std.specs.declared.option.Option.the-variants.{Some, None}
 use Rattle.std.specs.shelf.Text.{sameBytes}
-use Rattle.words.proofs.Reading.{first-with-word}
+use Rattle.words.proofs.Reading.{unread, first-with-word}
 use Rattle.words.specs.Numbers.{below, number-named}
 use Rattle.words.specs.Reading.{first-with}
 
@@ -91,7 +91,7 @@ module _ (field : List ℕ) where
       ∙ found (k + 1) n m (omega arith) (omega arith) h e) (cases-eq k m)
 
   among : (k n m : ℕ) → first-with decimal (counting k n) field ≡ Some m → m < k + n
-  among k zero m e = let z : _≡_ {A = ℕ} 0 1 = cc in absurd (omega arith)
+  among k zero m e = unread e
   among k (suc n) m e = chosen (sameBytes field (decimal k)) e (among (k + 1) n m)
     where
       chosen : (b : Bool) → cond b (Some k) (first-with decimal (counting (k + 1) n) field) ≡ Some m → (first-with decimal (counting (k + 1) n) field ≡ Some m → m < k + 1 + n) → m < k + suc n

@@ -8,11 +8,15 @@ use Rattle.std.specs.Options.{isSome}
 use Rattle.std.specs.shelf.Text.{sameBytes}
 use Rattle.std.proofs.shelf.Equals.{sameBytes-decides}
 use Rattle.std.proofs.shelf.Tests.{cond-true}
-use Rattle.std.specs.declared.option.Option.the-variants.{Some}
+use Rattle.std.specs.declared.option.Option.the-variants.{Some, None}
 use Rattle.words.specs.Reading.{first-with}
 
+-- nothing is read as nothing
+pub unread : {X Y : Type 0} {x : X} → None ≡ Some x → Y
+unread e = absurd (grind arith)
+
 pub first-with-word : {X : Type 0} (word : X → List ℕ) (xs : List X) (field : List ℕ) (x : X) → first-with word xs field ≡ Some x → word x ≡ field
-first-with-word word [] field x e = let z : _≡_ {A = ℕ} 0 1 = cc in absurd (omega arith)
+first-with-word word [] field x e = unread e
 first-with-word word (y ∷ ys) field x e = chosen (sameBytes field (word y)) refl e (first-with-word word ys field x)
   where
     chosen : (b : Bool) → sameBytes field (word y) ≡ b → cond b (Some y) (first-with word ys field) ≡ Some x → (first-with word ys field ≡ Some x → word x ≡ field) → word x ≡ field
