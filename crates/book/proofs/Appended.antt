@@ -10,10 +10,6 @@ pub after : (end middle start q p : List ℕ) → middle ≡ start ++ q → end 
 after end middle start q p m e = e ∙ ap (λ l. l ++ p) m ∙ append-assoc start q p
 
 module _ {X E : Type 0} where
-  pub made-is : (r : Result X E) (end start p w : List ℕ) → made r (λ _. end ≡ start ++ p) → p ≡ w → made r (λ _. end ≡ start ++ w)
-  made-is (Ok x) end start p w h e = h ∙ ap (λ q. start ++ q) e
-  made-is (Err x) end start p w h e = tt
-
   -- p after q is w
   pub made-after : (r : Result X E) (end middle start q p w : List ℕ) → middle ≡ start ++ q → made r (λ _. end ≡ middle ++ p) → q ++ p ≡ w → made r (λ _. end ≡ start ++ w)
   made-after (Ok x) end middle start q p w m h e = after end middle start q p m h ∙ ap (λ l. start ++ l) e
