@@ -15,9 +15,8 @@ use Rattle.temps.specs.Temps.{temp_act, temp_inv, temp_word}
 use Rattle.kind.specs.declared.Kind.{Ghosts}
 use Rattle.table.specs.Look.{looked}
 use Rattle.table.specs.declared.questions.Answer.TheVariants.{Holds, Barred, Open}
-use Rattle.rules.specs.State.{State, new_sheet}
-use Rattle.rules.specs.Lines.{note, see}
-use Rattle.rules.specs.Calls.{Taken, accepted, answered, refused, enter, ask, called}
+use Rattle.sheet.specs.State.{State, new_sheet}
+use Rattle.sheet.specs.Calls.{Taken, accepted, answered, refused, enter, note, see, ask, called}
 
 abbrev pub phases : Ghosts (Unit {0}) ℕ ℕ
 phases = orders_kind 3

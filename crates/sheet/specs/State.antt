@@ -40,7 +40,3 @@ module _ {R S : Type 0} where
   -- the log has no room for one more line of a trial
   abbrev pub full : State R S → Bool
   full s = in_trial s && nat_le s.room (lines_kept s.trials)
-
-  -- the sheet with another table and other trials
-  abbrev pub with_table : State R S → List (Node R S) → List (List (Kept R S)) → State R S
-  with_table s t trials = record { number = s.number; table = t; room = s.room; trials = trials }

@@ -2,7 +2,7 @@
 use Rattle.std.specs.Prelude.{ℕ, List, map}
 use Rattle.kind.specs.declared.Kind.{Ghosts}
 use Rattle.table.specs.Words.{node_read, table_read}
-use Rattle.rules.specs.State.{Kept, State}
+use Rattle.sheet.specs.State.{Kept, State}
 
 module _ {K R S : Type 0} (k : Ghosts K R S) where
   abbrev pub kept_read : Kept R S → Kept (List ℕ) (List ℕ)

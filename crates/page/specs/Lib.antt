@@ -1,5 +1,0 @@
-pub mod Adding
-pub mod Filled
-pub mod Pages
-pub mod Wiped
-pub mod Writing
