@@ -1,4 +1,6 @@
 // A book of sheets, and the lines that it is asked in.
+#![tactic(auto)]
+
 mod answer;
 mod book;
 mod call;

@@ -1,4 +1,6 @@
 // Answers each line of the standard input as soon as it has come.
+#![tactic(auto)]
+
 ghost use Rattle.std.specs.Prelude.{◌+◌, ◌≤◌, length, IfOk};
 
 mod desk;

@@ -1,4 +1,6 @@
 // Kinds whose relations are the orders of a few conductors.
+#![tactic(auto)]
+
 mod count;
 mod masks;
 mod orders;

@@ -1,4 +1,6 @@
 // Drums: residues modulo 251, and the relations v to a × v + b.
+#![tactic(auto)]
+
 ghost use Rattle.std.specs.Prelude.{decimal};
 ghost use Rattle.picks.specs.Picks.{pick_has, pick_meet, pick_inside, pick_count, pick_label, pick_labelled};
 ghost use Rattle.picks.specs.declared.Pick.TheVariants.{Any};

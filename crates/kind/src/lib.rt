@@ -1,4 +1,6 @@
 // A kind: how two values may be related, which sets of values can be told, and how both are written.
+#![tactic(auto)]
+
 ghost use Rattle.std.specs.Prelude.{◌≡◌, ℕ, ◌<◌, ◌≤◌, Bool, true, ◌&&◌, List, length, is_some, Some, Option, ◌==◌};
 ghost use Rattle.std.specs.Option.{ok_or};
 ghost use Rattle.words.specs.Plain.{all_plain};

@@ -1,4 +1,6 @@
 // Leads: two ends, plus and minus, joined alike or crossed.
+#![tactic(auto)]
+
 ghost use Rattle.std.specs.Prelude.{true};
 ghost use Rattle.leads.specs.declared.Turn.TheVariants.{Same};
 ghost use Rattle.leads.specs.Leads.{turn_act, turn_comp, turn_word, turn_named, ends, ends_has, ends_meet, ends_shift, ends_fixed, ends_inside, ends_count, ends_label, ends_labelled, turns, all_ends};

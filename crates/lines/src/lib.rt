@@ -1,4 +1,6 @@
 // Lines as they are typed: their fields, the sheet and the verb that they name, and their points.
+#![tactic(auto)]
+
 mod fault;
 mod fields;
 mod line;

@@ -1,4 +1,6 @@
 // Sets of none, one or all of the numbers below a bound.
+#![tactic(auto)]
+
 ghost use Rattle.std.specs.Prelude.{◌≡◌, ◌+◌, ◌%◌};
 ghost use Rattle.picks.specs.Picks.{pick_meet, pick_inside, pick_count, pick_read};
 

@@ -1,4 +1,6 @@
 // A sheet: points of one kind over a caller's memory, and the calls on it.
+#![tactic(auto)]
+
 mod calls;
 mod entry;
 mod opening;

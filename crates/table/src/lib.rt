@@ -1,5 +1,7 @@
 // A table of points: the walk to a reference, and what notes, sightings and questions make of the table.
 // A table is a slice of nodes, one a point. Nothing here knows of a kind but its laws.
+#![tactic(auto)]
+
 mod combination;
 mod looks;
 mod node;

@@ -1,4 +1,6 @@
 // Temperatures in tenths of a degree, and the offsets between them.
+#![tactic(auto)]
+
 ghost use Rattle.std.specs.Prelude.{◌≡◌};
 ghost use Rattle.words.specs.Numbers.{number_named};
 ghost use Rattle.picks.specs.declared.Pick.TheVariants.{Any};

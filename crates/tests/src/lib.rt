@@ -1,4 +1,6 @@
 // Examples of lines with what the book answers, and of calls on a sheet.
+#![tactic(auto)]
+
 mod two;
 
 #[cfg(test)]

@@ -1,4 +1,6 @@
 // Words: short texts, how they are compared, cut, written and read.
+#![tactic(auto)]
+
 mod bytes;
 mod numbers;
 mod parts;
