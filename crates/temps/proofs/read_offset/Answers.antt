@@ -7,5 +7,5 @@ use Rattle.temps.proofs.read_offset.Goals as goal
 
 pub returns-then-field-eq45 : goal.returns-then-field-eq45
 returns-then-field-eq45 c =
-    c.read-below.ensures ∙ ap (λ ds. if_below (number_named ds)) (take_rest c.args.field.now 1)
+    c.read_below.ensures ∙ ap (λ ds. if_below (number_named ds)) (take_rest c.args.field.now 1)
     ∙ sym (cond-true _ _ _ (eq-eqb _ _ c.if-field-eq45.true))

@@ -9,7 +9,7 @@ returns c =
     let start = vec_items c.args.out.now in
     let number = decimal c.args.number in
     let text = told (replied c.args.reply) in
-    let tabbed = after _ _ start number (9 ∷ []) c.in-ok-push-number.ensures c.in-ok-push-byte.ensures in
-    let said = after _ _ start (number ++ (9 ∷ [])) text tabbed c.in-ok-push-told.ensures in
-    made_after _ _ _ start ((number ++ (9 ∷ [])) ++ text) (10 ∷ []) (printed c.args.number (replied c.args.reply)) said c.push-byte-2.ensures
+    let tabbed = after _ _ start number (9 ∷ []) c.in_ok-push_number.ensures c.in_ok-push_byte.ensures in
+    let said = after _ _ start (number ++ (9 ∷ [])) text tabbed c.in_ok-push_told.ensures in
+    made_after _ _ _ start ((number ++ (9 ∷ [])) ++ text) (10 ∷ []) (printed c.args.number (replied c.args.reply)) said c.push_byte-2.ensures
     (simp append_assoc)

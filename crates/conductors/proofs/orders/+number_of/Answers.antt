@@ -4,21 +4,21 @@ use Rattle.conductors.specs.OrderNumbers.{numbered_alike, numbered_small}
 use Rattle.conductors.proofs.OrderSteps.{numbered_none, numbered_next, rest_places}
 use Rattle.conductors.proofs.orders.+number_of.Goals as goal
 
-whole : (t : _) (c : goal.After-number-of t) → get_or c.args.places 0 0 % c.args.n + c.args.n * c.number-of.result ≡ numbered c.args.n (λ v. get_or c.args.places v 0)
+whole : (t : _) (c : goal.After-number_of t) → get_or c.args.places 0 0 % c.args.n + c.args.n * c.number_of.result ≡ numbered c.args.n (λ v. get_or c.args.places v 0)
 whole t c =
     let n = c.args.n in
     let p = c.args.places in
     ap (λ r. get_or p 0 0 % n + n * r)
-    (c.number-of.ensures
+    (c.number_of.ensures
     ∙ numbered_alike (n - 1) _ _ (λ v (h : v < n - 1).
-    rest_places p _ _ _ c.close-up.ensures c.close-up-else-n-eq0.ensures c.close-up-else-n-eq0-2.ensures v (omega arith)))
+    rest_places p _ _ _ c.close_up.ensures c.close_up-else-n-eq0.ensures c.close_up-else-n-eq0-2.ensures v (omega arith)))
     ∙ sym (numbered_next n (λ v. get_or p v 0) (omega arith))
 
-pub overflow-mul-result : goal.overflow-mul-result
-overflow-mul-result t c = omega (arith, whole t c, numbered_small c.args.n (λ v. get_or c.args.places v 0) c.requires)
+pub overflow_mul-result : goal.overflow_mul-result
+overflow_mul-result t c = omega (arith, whole t c, numbered_small c.args.n (λ v. get_or c.args.places v 0) c.requires)
 
-pub overflow-add-result : goal.overflow-add-result
-overflow-add-result t c = omega (arith, whole t c, numbered_small c.args.n (λ v. get_or c.args.places v 0) c.requires)
+pub overflow_add-result : goal.overflow_add-result
+overflow_add-result t c = omega (arith, whole t c, numbered_small c.args.n (λ v. get_or c.args.places v 0) c.requires)
 
 pub returns-then-n-eq0 : goal.returns-then-n-eq0
 returns-then-n-eq0 t c = sym (numbered_none c.args.n (λ v. get_or c.args.places v 0) c.if-n-eq0.true)

@@ -1,4 +1,4 @@
 use Rattle.conductors.proofs.orders.+number_of.Given as goal
 
-abbrev pub decreases-number-of : goal.decreases-number-of
-decreases-number-of l = l.n
+abbrev pub decreases-number_of : goal.decreases-number_of
+decreases-number_of l = l.n

@@ -6,11 +6,11 @@ use Rattle.conductors.proofs.orders.+source.Goals as goal
 
 later : (t : _) (c : goal.After-source t) → c.source.result + 1 ≡ brings c.args.n c.args.k c.args.w
 later t c =
-    ap (λ r. r + 1) (c.source.ensures ∙ ap (brings (c.args.n - 1) (c.args.k / c.args.n)) c.close-up.ensures)
+    ap (λ r. r + 1) (c.source.ensures ∙ ap (brings (c.args.n - 1) (c.args.k / c.args.n)) c.close_up.ensures)
     ∙ sym (brings_next c.args.n c.args.k c.args.w (omega arith) c.if-w-k.false)
 
-pub overflow-add-result : goal.overflow-add-result
-overflow-add-result t c = omega (arith, later t c, brings_below c.args.n c.args.k c.args.w (omega arith))
+pub overflow_add-result : goal.overflow_add-result
+overflow_add-result t c = omega (arith, later t c, brings_below c.args.n c.args.k c.args.w (omega arith))
 
 pub returns-then-w-k : goal.returns-then-w-k
 returns-then-w-k t c = sym (brings_first c.args.n c.args.k c.args.w (omega arith) c.if-w-k.true)

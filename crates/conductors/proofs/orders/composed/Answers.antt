@@ -12,4 +12,4 @@ loop-v-preserved c =
     filled_more _ _ _ c.loop-v.invariant _ (omega arith) (c.place-in-loop-v.ensures ∙ ap (takes c.args.n c.args.g) c.place.ensures)
 
 pub returns : goal.returns
-returns c = c.number-of.ensures ∙ filled_numbered _ _ _ c.loop-v.invariant c.args.n (omega arith)
+returns c = c.number_of.ensures ∙ filled_numbered _ _ _ c.loop-v.invariant c.args.n (omega arith)

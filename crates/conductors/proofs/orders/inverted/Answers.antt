@@ -6,4 +6,4 @@ pub loop-v-preserved : goal.loop-v-preserved
 loop-v-preserved c = filled_more _ _ _ c.loop-v.invariant _ (omega arith) c.source.ensures
 
 pub returns : goal.returns
-returns c = c.number-of.ensures ∙ filled_numbered _ _ _ c.loop-v.invariant c.args.n (omega arith)
+returns c = c.number_of.ensures ∙ filled_numbered _ _ _ c.loop-v.invariant c.args.n (omega arith)

@@ -10,4 +10,4 @@ extended-s-requires c = (omega arith, gathered_low _ _ _ c.loop-v.invariant)
 
 pub loop-v-preserved : goal.loop-v-preserved
 loop-v-preserved c =
-    gathered_more _ _ _ c.loop-v.invariant _ _ c.extended-s.ensures (λ i. c.has-byte.ensures i || c.has-byte-any.ensures i)
+    gathered_more _ _ _ c.loop-v.invariant _ _ c.extended-s.ensures (λ i. c.has_byte.ensures i || c.has_byte-any.ensures i)

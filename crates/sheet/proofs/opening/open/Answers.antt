@@ -10,6 +10,6 @@ returns g c =
       state = λ i. record { number = c.args.number; table = front i; room = min (length c.args.log.now) 512 / 2; trials = [] };
       past = ap (drop 256) c.renew.ensures ∙ fresh_past k 256 c.args.nodes.now;
       log = refl;
-      nodes-lent = refl;
-      log-lent = refl;
+      nodes_lent = refl;
+      log_lent = refl;
     }

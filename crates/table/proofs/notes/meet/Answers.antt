@@ -10,5 +10,5 @@ returns g c =
       second = ap (λ w. w.reference) c.walk-second.ensures.walked;
       by = between_found g.K.Kind (lawful g.met.K.Kind) c.args.nodes.now c.walk-first.result c.walk-second.result _ _ c.args.g c.combine-by.result
           c.walk-first.ensures.walked c.walk-second.ensures.walked c.combine-by.ensures;
-      left_is = c.left-to-first-left.ensures;
+      left_is = c.left_to_first-left.ensures;
     }

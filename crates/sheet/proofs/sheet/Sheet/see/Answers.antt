@@ -14,21 +14,21 @@ returns-then-not-has g c =
       step = see_off g.K.Kind (view s) refl c.args.x c.args.s off;
       unchanged = (refl, refl);
       frame = all_kept s;
-      nodes-lent = refl;
-      log-lent = refl;
+      nodes_lent = refl;
+      log_lent = refl;
     }
 
-pub returns-then-is-empty : goal.returns-then-is-empty
-returns-then-is-empty g c =
+pub returns-then-is_empty : goal.returns-then-is_empty
+returns-then-is_empty g c =
     let s = c.args.self.now in
     let there = sym c.has.ensures ∙ c.if-not-has.false in
     record {
       step = see_contrary g.K.Kind (view s) refl (lawful g.met.K.Kind) c.args.x c.args.s _ c.narrowing-narrowing.ensures there
-          (sym c.if-is-empty.ensures);
+          (sym c.if-is_empty.ensures);
       unchanged = (refl, refl);
       frame = all_kept s;
-      nodes-lent = refl;
-      log-lent = refl;
+      nodes_lent = refl;
+      log_lent = refl;
     }
 
 pub returns : goal.returns
@@ -40,9 +40,9 @@ returns g c =
     let there = sym c.has.ensures ∙ c.if-not-has.false in
     record {
       step = see_accepted k (view s) refl (lawful g.met.K.Kind) c.args.x c.args.s n c.narrowing-narrowing.ensures there
-          _ (sym c.if-is-empty.ensures) (ap (take 256) c.settle.ensures ∙ settled_front k 256 _ n.reference n.left low);
+          _ (sym c.if-is_empty.ensures) (ap (take 256) c.settle.ensures ∙ settled_front k 256 _ n.reference n.left low);
       unchanged = tt;
       frame = log_kept s _ (ap (drop 256) c.settle.ensures ∙ settled_past k 256 _ n.reference n.left low) refl;
-      nodes-lent = refl;
-      log-lent = refl;
+      nodes_lent = refl;
+      log_lent = refl;
     }

@@ -11,8 +11,8 @@ returns c =
     let more = c.min-more.result in
     let long : length bytes ≡ 32 = search rules in
     let whole : more - 0 ≡ more = omega arith in
-    let copied : c.copy-from-slice.new.self ≡ take more text = c.copy-from-slice.ensures.after ∙ ap (λ n. take n text) whole in
-    let size : length c.copy-from-slice.new.self ≡ more = ap length copied ∙ length-take more text ∙ omega (arith, c.min-more.ensures) in
+    let copied : c.copy_from_slice.new.self ≡ take more text = c.copy_from_slice.ensures.after ∙ ap (λ n. take n text) whole in
+    let size : length c.copy_from_slice.new.self ≡ more = ap length copied ∙ length-take more text ∙ omega (arith, c.min-more.ensures) in
     let front : length (take len bytes) + (32 - len) ≡ 32 = simp length-take (omega (arith, c.args.self.now.fits)) in
     take-put_mid len _ bytes _ _ (omega arith) (omega (arith, c.args.self.now.fits))
     ∙ ap (λ l. take len bytes ++ l) (copied ∙ ap (λ n. take n text) c.min-more.ensures ∙ take_min (32 - len) text)

@@ -5,6 +5,6 @@ use Rattle.words.proofs.word.Word.signed.Goals as goal
 pub returns : goal.returns
 returns c =
     let back = to_z-of_z c.ranges.z in
-    let size = c.unsigned-abs.ensures.value ∙ ap nat_abs back in
+    let size = c.unsigned_abs.ensures.value ∙ ap nat_abs back in
     c.append.ensures
-    ∙ minus_first c.args.z _ _ (rw back at c.if-z-ge0.false) (omega arith) c.of-word.ensures (c.as-slice.ensures ∙ c.decimal-2.ensures ∙ ap decimal size)
+    ∙ minus_first c.args.z _ _ (rw back at c.if-z-ge0.false) (omega arith) c.of-word.ensures (c.as_slice.ensures ∙ c.decimal-2.ensures ∙ ap decimal size)
