@@ -2,6 +2,7 @@
 -- Only the bridge from the trait's own record of its laws names how the toolchain holds them.
 use Rattle.std.proofs.Common.{◌≡◌, ℕ, ◌<◌, ◌≤◌, true, ◌&&◌, eqb, List, length, is_some, Some}
 use Rattle.words.specs.Plain.{all_plain}
+use Rattle.std.specs.declared.clone.Clone.{Ghosts as CloneGhosts}
 use Rattle.kind.specs.declared.Kind.{Ghosts}
 use Rattle.kind.specs.contracts.Kind.TheBound.{Met}
 use Rattle.kind.specs.Tally.{members, Tallied}
@@ -41,7 +42,7 @@ pub record Lawful {K R S : Type 0} (k : Ghosts K R S) : Type 0 where
   pub labelled_label : (field : List ℕ) (s : S) → k.labelled field ≡ Some s → k.label s ≡ field
   pub label_labelled : (s : S) → is_some (k.labelled (k.label s)) ≡ true
 
-pub lawful : {M : Type 1} {𝓤 : Ura M} {𝓛 : Logic 𝓤} {𝓜 : Model 𝓤 𝓛.H} {𝓡 : Running 𝓤 𝓛.H 𝓜} {γ : Env} {K R S : RattleType} {k : Ghosts K.Denot R.Denot S.Denot} {d : Dict} → Met 𝓛 𝓜 𝓡 γ K R S k d → Lawful k
+pub lawful : {M : Type 1} {𝓤 : Ura M} {𝓛 : Logic 𝓤} {𝓜 : Model 𝓤 𝓛.H} {𝓡 : Running 𝓤 𝓛.H 𝓜} {γ : Env} {K R S : RattleType} {k : Ghosts K.Denot R.Denot S.Denot} {d : Dict} {r : CloneGhosts R.Denot} {of_r : Dict} {s : CloneGhosts S.Denot} {of_s : Dict} → Met 𝓛 𝓜 𝓡 γ K R S k d r of_r s of_s → Lawful k
 lawful m = record {
   positive = m.positive;
   closed = m.closed;
