@@ -1,1 +1,2 @@
 pub mod FarEnd
+pub mod FarEndLaws

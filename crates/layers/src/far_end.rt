@@ -1,5 +1,6 @@
 // The far-end layer: the relations of a kind, each told from the other end.
 ghost use Rattle.layers.specs.FarEnd.{far_act, far_comp, far_shift};
+ghost use Rattle.layers.specs.FarEndLaws.{far_unit, far_order, far_tells, far_told};
 ghost use Rattle.std.proofs.Common.{rules};
 
 use kind::{Kind, WordFault};
@@ -56,6 +57,10 @@ impl<K: Kind> Kind for FarEnd<K> {
 
     ghost closed = { Prim.search rules };
 
+    ghost unit_acts = { far_unit K.span K.act K.inv K.closed K.inv_left K.unit K.unit_acts };
+
+    ghost comp_acts = { far_order K.span K.act K.inv K.closed K.inv_left K.inv_right K.comp K.comp_acts };
+
     ghost inv_left = { Prim.search rules };
 
     ghost inv_right = { Prim.search rules };
@@ -83,6 +88,10 @@ impl<K: Kind> Kind for FarEnd<K> {
     ghost word_plain = { Prim.search rules };
 
     ghost label_plain = { Prim.search rules };
+
+    ghost word_tells = { far_tells K.span K.act K.inv K.closed K.inv_left K.inv_right K.word K.word_tells };
+
+    ghost word_told = { far_told K.span K.act K.inv K.closed K.inv_left K.inv_right K.word K.word_told };
 
     ghost label_tells = { Prim.search rules };
 

@@ -36,8 +36,8 @@ returns g c =
     let k = g.K.Kind in
     let s = c.args.self.now in
     let m = c.meeting-meeting.result in
-    let low : m.first < 256 = omega (arith, c.meeting-meeting.type-inv) in
-    let high : m.second < 256 = omega (arith, c.meeting-meeting.type-inv) in
+    let low : m.first < 256 = omega (arith, c.meeting-meeting.type_inv) in
+    let high : m.second < 256 = omega (arith, c.meeting-meeting.type_inv) in
     let there = sym c.has_both.ensures ∙ c.if-not-has_both.false in
     record {
       step = note_accepted k (view s) refl (lawful g.met.K.Kind) c.args.x c.args.y c.args.g m c.meeting-meeting.ensures there

@@ -36,7 +36,7 @@ returns g c =
     let k = g.K.Kind in
     let s = c.args.self.now in
     let n = c.narrowing-narrowing.result in
-    let low : n.reference < 256 = omega (arith, c.narrowing-narrowing.type-inv) in
+    let low : n.reference < 256 = omega (arith, c.narrowing-narrowing.type_inv) in
     let there = sym c.has.ensures ∙ c.if-not-has.false in
     record {
       step = see_accepted k (view s) refl (lawful g.met.K.Kind) c.args.x c.args.s n c.narrowing-narrowing.ensures there
