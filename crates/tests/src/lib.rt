@@ -265,7 +265,9 @@ mod tests {
         print_reply(&mut out, 3, book.enter(b"leads\tsee\t1\tplus"))?;
         print_reply(&mut out, 10, book.enter(b"leads\task\t0\t1\tsame"))?;
         print_reply(&mut out, 65536, book.enter(b"leads\tsee\t1\tminus"))?;
-        assert!(rt; out.as_slice() == b"1\topen\n2\tok\n3\tok\n10\tholds\n65536\trefused\t6\n");
+        assert!(rt;
+            out.as_slice() == b"1\topen\n2\tok\n3\tok\n10\tholds\n65536\trefused\t6\n".as_slice()
+        );
         Ok(())
     }
 
@@ -301,9 +303,9 @@ mod tests {
         assert_eq!(rt; sheet.note(0, 1, twice.number()), Ok(()));
         assert_eq!(rt; sheet.note(0, 1, fourfold.number()), Ok(()));
         let one = FarEnd::<Drums>::set_word(sheet.look(0)?);
-        assert!(rt; one.as_slice() == b"1");
+        assert!(rt; one.as_slice() == b"1".as_slice());
         let five = FarEnd::<Drums>::set_word(sheet.look(1)?);
-        assert!(rt; five.as_slice() == b"5");
+        assert!(rt; five.as_slice() == b"5".as_slice());
         Ok(())
     }
 
@@ -319,7 +321,7 @@ mod tests {
         assert_eq!(rt; sheet.ask(0, 2, swapped), Ok(Answer::Barred));
         assert_eq!(rt; sheet.see(2, Orders::<Two>::read_set(b"2")?), Ok(()));
         let left = Orders::<Two>::set_word(sheet.look(0)?);
-        assert!(rt; left.as_slice() == b"2");
+        assert!(rt; left.as_slice() == b"2".as_slice());
         Ok(())
     }
 }
