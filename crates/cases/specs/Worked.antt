@@ -1,6 +1,5 @@
 -- Worked cases of orders, drums, offsets and new sheets, in one table.
 use Rattle.std.specs.Prelude.{◌≡◌, ℕ, Bool, true, false, ◌&&◌, List, [], ◌∷◌, is_some, codes, decimal}
-use Rattle.leads.specs.declared.Leads.{Leads}
 use Rattle.leads.specs.declared.Turn.{Turn}
 use Rattle.leads.specs.declared.Turn.TheVariants.{Same}
 use Rattle.leads.specs.declared.Ends.{Ends}

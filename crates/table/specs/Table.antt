@@ -1,5 +1,5 @@
 -- The points of a table.
-use Rattle.std.specs.Prelude.{ℕ, zero, suc, List, [], ◌∷◌, set, slice_index_or, slice_set}
+use Rattle.std.specs.Prelude.{ℕ, zero, suc, List, [], ◌∷◌, slice_index_or, slice_set}
 use Rattle.kind.specs.declared.Kind.{Ghosts}
 use Rattle.table.specs.declared.node.Node.{Node}
 
