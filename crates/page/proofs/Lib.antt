@@ -1,0 +1,6 @@
+pub mod Added
+pub mod Blanks
+pub mod Listings
+pub mod Overlays
+mod Uses
+pub mod Wipes

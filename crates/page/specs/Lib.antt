@@ -1,0 +1,5 @@
+pub mod Adding
+pub mod Filled
+pub mod Pages
+pub mod Wiped
+pub mod Writing

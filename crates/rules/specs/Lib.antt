@@ -1,0 +1,10 @@
+pub mod Calls
+pub mod Lines
+pub mod Listing
+pub mod Reached
+pub mod Reading
+pub mod Right
+pub mod Standing
+pub mod State
+pub mod Trials
+pub mod Words
