@@ -1,5 +1,6 @@
--- The laws of a kind that lemmas over every kind take, as one record.
--- Only the bridge from the trait's own record of its laws names how the toolchain holds them.
+-- The laws of a kind that lemmas over every kind take, as one record: all but those on the bytes of words and on reading,
+-- which are a record of their own.
+-- Only the bridges from the trait's own record of its laws name how the toolchain holds them.
 use Rattle.std.proofs.Common.{◌≡◌, ℕ, ◌<◌, ◌≤◌, true, ◌&&◌, eqb, List, length, is_some, Some}
 use Rattle.words.specs.Plain.{all_plain}
 use Rattle.std.specs.declared.clone.Clone.{Ghosts as CloneGhosts}
@@ -29,18 +30,10 @@ pub record Lawful {K R S : Type 0} (k : Ghosts K R S) : Type 0 where
   pub inside_all : (s t : S) → k.inside s t ≡ true → (v : ℕ) → v < k.span → k.has s v ≡ true → k.has t v ≡ true
   pub all_inside : (s t : S) → ((v : ℕ) → v < k.span → k.has s v ≡ true → k.has t v ≡ true) → k.inside s t ≡ true
   pub count_tells : (s : S) → Tallied (members (k.has s) k.span) (k.count s)
-  pub word_length : (g : R) → (0 < length (k.word g)) × (length (k.word g) ≤ k.wide)
-  pub label_length : (s : S) → (0 < length (k.label s)) × (length (k.label s) ≤ k.wide)
-  pub word_plain : (g : R) → all_plain (k.word g) ≡ true
-  pub label_plain : (s : S) → all_plain (k.label s) ≡ true
   pub word_tells : (g h : R) → k.word g ≡ k.word h → SameMoves k g h
   pub word_told : (g h : R) → SameMoves k g h → k.word g ≡ k.word h
   pub label_tells : (s t : S) → k.label s ≡ k.label t → SameMembers k s t
   pub label_told : (s t : S) (w : ℕ) → w < k.span → k.has s w ≡ true → SameMembers k s t → k.label s ≡ k.label t
-  pub named_word : (field : List ℕ) (g : R) → k.named field ≡ Some g → k.word g ≡ field
-  pub word_named : (g : R) → is_some (k.named (k.word g)) ≡ true
-  pub labelled_label : (field : List ℕ) (s : S) → k.labelled field ≡ Some s → k.label s ≡ field
-  pub label_labelled : (s : S) → is_some (k.labelled (k.label s)) ≡ true
 
 pub lawful : {M : Type 1} {𝓤 : Ura M} {𝓛 : Logic 𝓤} {𝓜 : Model 𝓤 𝓛.H} {𝓡 : Running 𝓤 𝓛.H 𝓜} {γ : Env} {K R S : RattleType} {k : Ghosts K.Denot R.Denot S.Denot} {d : Dict} {r : CloneGhosts R.Denot} {of_r : Dict} {s : CloneGhosts S.Denot} {of_s : Dict} → Met 𝓛 𝓜 𝓡 γ K R S k d r of_r s of_s → Lawful k
 lawful m = record {
@@ -57,14 +50,29 @@ lawful m = record {
   inside_all = m.inside_all;
   all_inside = m.all_inside;
   count_tells = m.count_tells;
-  word_length = m.word_length;
-  label_length = m.label_length;
-  word_plain = m.word_plain;
-  label_plain = m.label_plain;
   word_tells = m.word_tells;
   word_told = m.word_told;
   label_tells = m.label_tells;
   label_told = m.label_told;
+}
+
+-- the laws on the bytes of words and on reading
+pub record Worded {K R S : Type 0} (k : Ghosts K R S) : Type 0 where
+  pub word_length : (g : R) → (0 < length (k.word g)) × (length (k.word g) ≤ k.wide)
+  pub label_length : (s : S) → (0 < length (k.label s)) × (length (k.label s) ≤ k.wide)
+  pub word_plain : (g : R) → all_plain (k.word g) ≡ true
+  pub label_plain : (s : S) → all_plain (k.label s) ≡ true
+  pub named_word : (field : List ℕ) (g : R) → k.named field ≡ Some g → k.word g ≡ field
+  pub word_named : (g : R) → is_some (k.named (k.word g)) ≡ true
+  pub labelled_label : (field : List ℕ) (s : S) → k.labelled field ≡ Some s → k.label s ≡ field
+  pub label_labelled : (s : S) → is_some (k.labelled (k.label s)) ≡ true
+
+pub worded : {M : Type 1} {𝓤 : Ura M} {𝓛 : Logic 𝓤} {𝓜 : Model 𝓤 𝓛.H} {𝓡 : Running 𝓤 𝓛.H 𝓜} {γ : Env} {K R S : RattleType} {k : Ghosts K.Denot R.Denot S.Denot} {d : Dict} {r : CloneGhosts R.Denot} {of_r : Dict} {s : CloneGhosts S.Denot} {of_s : Dict} → Met 𝓛 𝓜 𝓡 γ K R S k d r of_r s of_s → Worded k
+worded m = record {
+  word_length = m.word_length;
+  label_length = m.label_length;
+  word_plain = m.word_plain;
+  label_plain = m.label_plain;
   named_word = m.named_word;
   word_named = m.word_named;
   labelled_label = m.labelled_label;

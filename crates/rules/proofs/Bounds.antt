@@ -3,7 +3,7 @@ use Rattle.std.proofs.Common.{◌≡◌, ℕ, zero, suc, ◌+◌, ◌<◌, ◌�
 use Rattle.std.proofs.lemmas.Fmt.{length-decimal-le}
 use Rattle.std.proofs.lemmas.Bool.{cond_both}
 use Rattle.kind.specs.declared.Kind.{Ghosts}
-use Rattle.kind.proofs.Lawful.{Lawful}
+use Rattle.kind.proofs.Lawful.{Worded}
 use Rattle.table.specs.declared.node.Node.{Node}
 use Rattle.table.specs.Table.{at}
 use Rattle.table.specs.Walk.{walked}
@@ -15,12 +15,12 @@ use Rattle.rules.specs.Standing.{On}
 point_short : (x : ℕ) → x < 256 → length (decimal x) ≤ 3
 point_short x low = length-decimal-le 3 x (omega arith) (omega arith) (omega arith)
 
-module _ {K R S : Type 0} (k : Ghosts K R S) (laws : Lawful k) where
+module _ {K R S : Type 0} (k : Ghosts K R S) (worded : Worded k) where
   -- verb, two points and a relation, three tabs and a line feed; a sighting has fewer
   line_short : (l : Line R S) → On 256 l → length (line_text k l) ≤ 14 + k.wide
   line_short (note x y g) on =
-      simp length-append (omega (arith, point_short x on.0, point_short y on.1, (laws.word_length g).1))
-  line_short (see x s) on = simp length-append (omega (arith, point_short x on.0, (laws.label_length s).1))
+      simp length-append (omega (arith, point_short x on.0, point_short y on.1, (worded.word_length g).1))
+  line_short (see x s) on = simp length-append (omega (arith, point_short x on.0, (worded.label_length s).1))
 
   -- one line in front, for one point more
   one_more : (l : Line R S) (ls : List (Line R S)) (m : ℕ) → On 256 l → length (text_of k ls) ≤ bound_of k m

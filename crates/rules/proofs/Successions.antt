@@ -2,7 +2,7 @@
 use Rattle.std.proofs.Common.{◌≡◌, ℕ, ◌+◌, ◌<◌, ◌≤◌, true, false, ◌&&◌, eqb, leb, List, [], ◌∷◌, ◌++◌, map, length, take, drop, Some, None, Option, sym, refl, ap, ◌∙◌, subst, subst₂, inl, inr, arith, length-take-le, take_at, drop_at}
 use Rattle.std.proofs.lemmas.Bool.{and_parts, and_cases, eqb-true, eqb-false, cond_both, ltb-true, ltb-false, leb-true, leb-false}
 use Rattle.kind.specs.declared.Kind.{Ghosts}
-use Rattle.kind.proofs.Lawful.{Lawful}
+use Rattle.kind.proofs.Lawful.{Lawful, Worded}
 use Rattle.table.specs.declared.node.Node.{Node}
 use Rattle.table.specs.declared.questions.Answer.{Answer}
 use Rattle.table.specs.declared.questions.Answer.TheVariants as answer
@@ -44,7 +44,7 @@ refused_apart i j apart e = apart (cc)
 not_refused : (j : ℕ) → ¬ (accepted ≡ refused j)
 not_refused j e = let z : ◌≡◌ {A = ℕ} 0 1 = cc in omega arith
 
-module _ {K R S : Type 0} (k : Ghosts K R S) (laws : Lawful k) (n number room : ℕ) (few : n ≤ 256) where
+module _ {K R S : Type 0} (k : Ghosts K R S) (laws : Lawful k) (worded : Worded k) (n number room : ℕ) (few : n ≤ 256) where
   -- a call on a sheet of which the invariant holds
   module _ (s : State R S) (st : Standing R S) (inv : Stands k n number room (sheet_read k s) st) where
     abbrev t : List (Node R S)
@@ -191,7 +191,7 @@ module _ {K R S : Type 0} (k : Ghosts K R S) (laws : Lawful k) (n number room : 
     text_says : Means k n ls (listed_text k n ls)
     text_says =
         let known = inv.known.1 in
-        let read = text_means k laws n few (lines_of k (table_of k n ls)) (listing_on k laws n (table_of k n ls) known.sound) in
+        let read = text_means k laws worded n few (lines_of k (table_of k n ls)) (listing_on k laws n (table_of k n ls) known.sound) in
         record {
           lines = read.0;
           read = read.1;
@@ -277,7 +277,7 @@ module _ {R S : Type 0} where
   standing_more [] st e = refl
   standing_more (f ∷ es) st e = standing_more es (stands_after st f.call f.outcome) e
 
-module _ {K R S : Type 0} (k : Ghosts K R S) (laws : Lawful k) where
+module _ {K R S : Type 0} (k : Ghosts K R S) (laws : Lawful k) (worded : Worded k) where
   begins : (n number room : ℕ) (s : State R S) → sheet_read k s ≡ sheet_read k (new_sheet k number n room)
       → Stands k n number room (sheet_read k s) nothing_stands
   begins n number room s new = subst (λ view. Stands k n number room view nothing_stands) (sym new) (new_stands k laws n number room)
@@ -285,7 +285,7 @@ module _ {K R S : Type 0} (k : Ghosts K R S) (laws : Lawful k) where
   reached_stands : (n number room : ℕ) (s : State R S) (st : Standing R S) → Reached k n number room s st → Stands k n number room (sheet_read k s) st
   reached_stands n number room s st r =
       subst₂ (λ z w. Stands k n number room (sheet_read k z) w) r.left r.stood
-      (final_stands k laws n number room r.few r.events r.start nothing_stands (begins n number room r.start r.new) r.ran)
+      (final_stands k laws worded n number room r.few r.events r.start nothing_stands (begins n number room r.start r.new) r.ran)
 
   -- a new sheet is reached, by no call
   pub reached_new : (n number room : ℕ) (s : State R S) → n ≤ 256 → sheet_read k s ≡ sheet_read k (new_sheet k number n room)
@@ -294,12 +294,12 @@ module _ {K R S : Type 0} (k : Ghosts K R S) (laws : Lawful k) where
 
   pub whatever_follows : (n number room : ℕ) (s : State R S) → n ≤ 256 → sheet_read k s ≡ sheet_read k (new_sheet k number n room)
       → WhateverFollows k n number room s
-  whatever_follows n number room s few new es run = all_right k laws n number room few es s nothing_stands (begins n number room s new) run
+  whatever_follows n number room s few new es run = all_right k laws worded n number room few es s nothing_stands (begins n number room s new) run
 
   right_here : (s s' : State R S) (c : Call R S) (o : Outcome) → Step k s c o s' → RightHere k s c o s'
   right_here s s' c o step n number room st r =
       let e : Event R S = record { call = c; outcome = o; left = s' } in (
-        (step_right k laws n number room r.few s s' st c o (reached_stands n number room s st r) step).0,
+        (step_right k laws worded n number room r.few s s' st c o (reached_stands n number room s st r) step).0,
         record {
           few = r.few;
           start = r.start;
@@ -320,10 +320,10 @@ module _ {K R S : Type 0} (k : Ghosts K R S) (laws : Lawful k) where
   reached_read n number room s st r = (reached_stands n number room s st r).known.0
 
   pub reached_sound : (n number room : ℕ) (s : State R S) (st : Standing R S) → Reached k n number room s st → Sound k n s.table
-  reached_sound n number room s st r = (good k laws n number room r.few s st (reached_stands n number room s st r)).sound
+  reached_sound n number room s st r = (good k laws worded n number room r.few s st (reached_stands n number room s st r)).sound
 
   pub bounded : (s : State R S) → Bounded k s (bound_of k (length s.table))
   bounded s n number room st r =
       let sound = reached_sound n number room s st r in
       subst (λ m. length (listing_of k s.table) ≤ bound_of k m) (sym sound.size)
-      (listing_bound k laws n r.few s.table sound.size (λ x h. (walked_ends k laws n s.table sound x h).on))
+      (listing_bound k worded n r.few s.table sound.size (λ x h. (walked_ends k laws n s.table sound x h).on))

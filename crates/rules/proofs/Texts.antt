@@ -9,7 +9,7 @@ use Rattle.words.proofs.Numerals.{decimal_named}
 use Rattle.words.proofs.Reading.{unread}
 use Rattle.words.proofs.Spelling.{plain_decimal}
 use Rattle.kind.specs.declared.Kind.{Ghosts}
-use Rattle.kind.proofs.Lawful.{Lawful}
+use Rattle.kind.proofs.Lawful.{Lawful, Worded}
 use Rattle.lines.specs.Point.{if_point, point_of}
 use Rattle.rules.specs.Lines.{Line, note, see}
 use Rattle.rules.specs.Listing.{line_text, text_of}
@@ -31,7 +31,7 @@ decimal_lacks x low = plain_lacks (decimal x) (plain_decimal x (omega arith))
 tabbed : (p q : List ℕ) → Lacks 10 p → Lacks 10 q → Lacks 10 (p ++ (9 ∷ q))
 tabbed p q h i = All-append _ p (9 ∷ q) h (λ e. omega arith, i)
 
-module _ {K R S : Type 0} (k : Ghosts K R S) (laws : Lawful k) where
+module _ {K R S : Type 0} (k : Ghosts K R S) (laws : Lawful k) (worded : Worded k) where
   -- a line in bytes, without the line feed at its end
   abbrev unended : Line R S → List ℕ
   unended (note x y g) = codes "note" ++ (9 ∷ decimal x ++ (9 ∷ decimal y ++ (9 ∷ k.word g)))
@@ -45,30 +45,30 @@ module _ {K R S : Type 0} (k : Ghosts K R S) (laws : Lawful k) where
   unended_lacks (note x y g) on =
       tabbed (codes "note") _ (plain_lacks (codes "note") refl).1
       (tabbed (decimal x) _ (decimal_lacks x on.0).1
-      (tabbed (decimal y) _ (decimal_lacks y on.1).1 (plain_lacks (k.word g) (laws.word_plain g)).1))
+      (tabbed (decimal y) _ (decimal_lacks y on.1).1 (plain_lacks (k.word g) (worded.word_plain g)).1))
   unended_lacks (see x s) on =
       tabbed (codes "see") _ (plain_lacks (codes "see") refl).1
-      (tabbed (decimal x) _ (decimal_lacks x on.0).1 (plain_lacks (k.label s) (laws.label_plain s)).1)
+      (tabbed (decimal x) _ (decimal_lacks x on.0).1 (plain_lacks (k.label s) (worded.label_plain s)).1)
 
   note_parts : (x y : ℕ) (g : R) → x < 256 → y < 256
       → parts 9 (unended (note x y g)) ≡ codes "note" ∷ (decimal x ∷ (decimal y ∷ (k.word g ∷ [])))
   note_parts x y g p q =
       ap (λ ps. codes "note" ∷ ps) (parts_before 9 (decimal x) _ (decimal_lacks x p).0
       ∙ ap (λ ps. decimal x ∷ ps) (parts_before 9 (decimal y) _ (decimal_lacks y q).0
-      ∙ ap (λ ps. decimal y ∷ ps) (parts_whole 9 (k.word g) (plain_lacks (k.word g) (laws.word_plain g)).0)))
+      ∙ ap (λ ps. decimal y ∷ ps) (parts_whole 9 (k.word g) (plain_lacks (k.word g) (worded.word_plain g)).0)))
 
   see_parts : (x : ℕ) (s : S) → x < 256 → parts 9 (unended (see x s)) ≡ codes "see" ∷ (decimal x ∷ (k.label s ∷ []))
   see_parts x s p =
       ap (λ ps. codes "see" ∷ ps) (parts_before 9 (decimal x) _ (decimal_lacks x p).0
-      ∙ ap (λ ps. decimal x ∷ ps) (parts_whole 9 (k.label s) (plain_lacks (k.label s) (laws.label_plain s)).0))
+      ∙ ap (λ ps. decimal x ∷ ps) (parts_whole 9 (k.label s) (plain_lacks (k.label s) (worded.label_plain s)).0))
 
   -- a line is read as one that the same assignments obey
   line_means : (n : ℕ) → n ≤ 256 → (l : Line R S) → On n l
       → (m : Line R S) × (line_read k (unended l) ≡ Some m) × ((a : ℕ → ℕ) → Assigns k n a → Obeys k a m ↔ Obeys k a l)
   line_means n few (note x y g) on =
-      let read = the_some (k.named (k.word g)) (laws.word_named g) in
+      let read = the_some (k.named (k.word g)) (worded.word_named g) in
       let h = read.0 in
-      let same = laws.word_tells h g (laws.named_word (k.word g) h read.1) in
+      let same = laws.word_tells h g (worded.named_word (k.word g) h read.1) in
       let p : x < 256 = omega (arith, on.0) in
       let q : y < 256 = omega (arith, on.1) in (
         note x y h,
@@ -77,9 +77,9 @@ module _ {K R S : Type 0} (k : Ghosts K R S) (laws : Lawful k) where
         λ a low. (λ o. o ∙ same (a y) (low y on.1), λ o. o ∙ sym (same (a y) (low y on.1))),
       )
   line_means n few (see x s) on =
-      let read = the_some (k.labelled (k.label s)) (laws.label_labelled s) in
+      let read = the_some (k.labelled (k.label s)) (worded.label_labelled s) in
       let q = read.0 in
-      let same = laws.label_tells q s (laws.labelled_label (k.label s) q read.1) in
+      let same = laws.label_tells q s (worded.labelled_label (k.label s) q read.1) in
       let p : x < 256 = omega (arith, on.0) in (
         see x q,
         ap (fields_read k) (see_parts x s p) ∙ (λ i. bind (point_read x p i) (λ a. bind (read.1 i) (λ t. Some (see a t)))),
