@@ -20,8 +20,7 @@ impl BookFault {
     {
         match self {
             BookFault::Read(fault) => fault.number(),
-            BookFault::Call(Refusal::OffSheet) => 5,
-            BookFault::Call(Refusal::Contrary) => 6,
+            BookFault::Call(refusal) => refusal.number(),
         }
     }
 }

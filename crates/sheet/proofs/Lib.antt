@@ -1,2 +1,6 @@
 mod Entering
 mod Framing
+mod Listed
+mod Logs
+mod PageTold
+mod Writing

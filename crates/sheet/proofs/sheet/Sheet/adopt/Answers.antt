@@ -1,0 +1,24 @@
+use Rattle.std.proofs.Common.{rules}
+use Rattle.kind.proofs.Lawful.{lawful, worded}
+use Rattle.rules.proofs.Successions.{makes}
+use Rattle.sheet.proofs.sheet.Sheet.adopt.Goals as goal
+
+pub returns-in-Err : goal.returns-in-Err
+returns-in-Err g c = record {
+  makes = makes g.K.Kind (lawful g.met.K.Kind) (worded g.met.K.Kind) _ _ _ _ (search rules);
+  state = search rules;
+  slip = search rules;
+  unchanged = search rules;
+  nodes_lent = search rules;
+  log_lent = search rules;
+}
+
+pub returns : goal.returns
+returns g c = record {
+  makes = makes g.K.Kind (lawful g.met.K.Kind) (worded g.met.K.Kind) _ _ _ _ (search rules);
+  state = search rules;
+  slip = search rules;
+  unchanged = search rules;
+  nodes_lent = search rules;
+  log_lent = search rules;
+}
