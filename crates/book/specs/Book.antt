@@ -3,12 +3,11 @@ use Rattle.std.specs.Prelude.{◌≡◌, ℕ, List, Ok, Err, Result}
 use Rattle.leads.specs.declared.Turn.{Turn}
 use Rattle.leads.specs.declared.Ends.{Ends}
 use Rattle.picks.specs.declared.Pick.{Pick}
-use Rattle.page.specs.Filled.{Filled}
-use Rattle.rules.specs.State.{State, new_sheet}
-use Rattle.rules.specs.Calls.{Outcome, refused}
-use Rattle.rules.specs.Words.{sheet_read}
-use Rattle.sheet.specs.Frame.{PastKept, RefusedUnchanged}
+use Rattle.sheet.specs.Frame.{Frame, RefusedUnchanged}
+use Rattle.sheet.specs.State.{State, new_sheet}
+use Rattle.sheet.specs.Calls.{Outcome, refused}
 use Rattle.sheet.specs.View.{view}
+use Rattle.sheet.specs.Words.{sheet_read}
 use Rattle.lines.specs.Faults.{line_number}
 use Rattle.lines.specs.Said.{Heard, Said, parse}
 use Rattle.lines.specs.declared.fault.LineFault.{LineFault}
@@ -34,43 +33,37 @@ new_book = record {
 }
 
 abbrev pub book_view : code.Book → Sheets
-book_view b = record {
-  leads = view leads_kind b.leads;
-  phases = view phases_kind b.phases;
-  drums = view drums_kind b.drums;
-  temps = view temps_kind b.temps;
-}
+book_view b = record { leads = view b.leads; phases = view b.phases; drums = view b.drums; temps = view b.temps }
 
 pub record BookTaken : Type 0 where
   pub outcome : Outcome
   pub left : Sheets
 
--- a line on the sheet that it names, with the page p at hand
-abbrev pub sheet_taken : Sheets → Filled → SheetName → Said → BookTaken
-sheet_taken b p sheets.Leads l = record {
-  outcome = (line_taken leads_kind b.leads p l).outcome;
-  left = record { leads = (line_taken leads_kind b.leads p l).left; phases = b.phases; drums = b.drums; temps = b.temps };
+abbrev pub sheet_taken : Sheets → SheetName → Said → BookTaken
+sheet_taken b sheets.Leads l = record {
+  outcome = (line_taken leads_kind b.leads l).outcome;
+  left = record { leads = (line_taken leads_kind b.leads l).left; phases = b.phases; drums = b.drums; temps = b.temps };
 }
-sheet_taken b p sheets.Phases l = record {
-  outcome = (line_taken phases_kind b.phases p l).outcome;
-  left = record { leads = b.leads; phases = (line_taken phases_kind b.phases p l).left; drums = b.drums; temps = b.temps };
+sheet_taken b sheets.Phases l = record {
+  outcome = (line_taken phases_kind b.phases l).outcome;
+  left = record { leads = b.leads; phases = (line_taken phases_kind b.phases l).left; drums = b.drums; temps = b.temps };
 }
-sheet_taken b p sheets.Drums l = record {
-  outcome = (line_taken drums_kind b.drums p l).outcome;
-  left = record { leads = b.leads; phases = b.phases; drums = (line_taken drums_kind b.drums p l).left; temps = b.temps };
+sheet_taken b sheets.Drums l = record {
+  outcome = (line_taken drums_kind b.drums l).outcome;
+  left = record { leads = b.leads; phases = b.phases; drums = (line_taken drums_kind b.drums l).left; temps = b.temps };
 }
-sheet_taken b p sheets.Temps l = record {
-  outcome = (line_taken temps_kind b.temps p l).outcome;
-  left = record { leads = b.leads; phases = b.phases; drums = b.drums; temps = (line_taken temps_kind b.temps p l).left };
+sheet_taken b sheets.Temps l = record {
+  outcome = (line_taken temps_kind b.temps l).outcome;
+  left = record { leads = b.leads; phases = b.phases; drums = b.drums; temps = (line_taken temps_kind b.temps l).left };
 }
 
-abbrev pub heard_taken : Sheets → Filled → Result Heard LineFault → BookTaken
-heard_taken b p (Ok h) = sheet_taken b p h.sheet h.said
-heard_taken b p (Err e) = record { outcome = refused (line_number e); left = b }
+abbrev pub heard_taken : Sheets → Result Heard LineFault → BookTaken
+heard_taken b (Ok h) = sheet_taken b h.sheet h.said
+heard_taken b (Err e) = record { outcome = refused (line_number e); left = b }
 
 -- what comes of a line, which is a text without its line feed
-abbrev pub book_taken : Sheets → Filled → List ℕ → BookTaken
-book_taken b p text = heard_taken b p (parse text)
+abbrev pub book_taken : Sheets → List ℕ → BookTaken
+book_taken b text = heard_taken b (parse text)
 
 -- two books that are the same to whoever reads relations and sets through their words
 pub record SameBook (b c : Sheets) : Type 0 where
@@ -79,17 +72,17 @@ pub record SameBook (b c : Sheets) : Type 0 where
   pub drums : sheet_read drums_kind b.drums ≡ sheet_read drums_kind c.drums
   pub temps : sheet_read temps_kind b.temps ≡ sheet_read temps_kind c.temps
 
--- the line came to the outcome o and left the sheets b'
-pub record BookStep (b : Sheets) (p : Filled) (text : List ℕ) (o : Outcome) (b' : Sheets) : Type 0 where
-  pub outcome : o ≡ (book_taken b p text).outcome
-  pub left : SameBook b' (book_taken b p text).left
+-- the line came to the outcome o and left the book b'
+pub record BookStep (b : Sheets) (text : List ℕ) (o : Outcome) (b' : Sheets) : Type 0 where
+  pub outcome : o ≡ (book_taken b text).outcome
+  pub left : SameBook b' (book_taken b text).left
 
 -- nothing past the used nodes and log entries of a sheet is written
-pub record BookPast (a b : code.Book) : Type 0 where
-  pub leads : PastKept a.leads b.leads
-  pub phases : PastKept a.phases b.phases
-  pub drums : PastKept a.drums b.drums
-  pub temps : PastKept a.temps b.temps
+pub record BookFrame (a b : code.Book) : Type 0 where
+  pub leads : Frame a.leads b.leads
+  pub phases : Frame a.phases b.phases
+  pub drums : Frame a.drums b.drums
+  pub temps : Frame a.temps b.temps
 
 -- a refusal leaves every node and every log entry of every sheet as it was
 pub record BookUnchanged {T E : Type 0} (r : Result T E) (a b : code.Book) : Type 0 where

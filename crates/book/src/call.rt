@@ -1,38 +1,21 @@
 // A line with its fields read.
 ghost use Rattle.std.specs.Prelude.{◌≡◌};
-ghost use Rattle.book.specs.Requests.{comparison, call_of};
+ghost use Rattle.book.specs.Requests.{meant, call_of};
 ghost use Rattle.lines.specs.Said.{said_of};
 
-use guess::{Comparison, ComparisonClone};
 use kind::Kind;
 use lines::{Line, LineFault, read_point};
 
 #[derive(Clone, Copy)]
 pub(crate) enum Call<R, S> {
-    Note {
-        x: u8,
-        y: u8,
-        relation: R,
-    },
-    See {
-        x: u8,
-        set: S,
-    },
-    Ask {
-        x: u8,
-        y: u8,
-        relation: R,
-    },
-    List,
-    If {
-        guess: Comparison<R>,
-        question: Comparison<R>,
-    },
+    Note { x: u8, y: u8, relation: R },
+    See { x: u8, set: S },
+    Ask { x: u8, y: u8, relation: R },
 }
 
 // Points are read before words, so that a bad point is told first.
 pub(crate) fn read_call<K: Kind>(line: Line<'_>) -> Result<Call<K::Relation, K::Set>, LineFault>
-    ensures { result ≡ call_of K.Kind (said_of line.entry) }
+    ensures { meant result ≡ call_of K.Kind (said_of line.entry) }
 {
     match line {
         Line::Note { x, y, relation } => {
@@ -51,29 +34,6 @@ pub(crate) fn read_call<K: Kind>(line: Line<'_>) -> Result<Call<K::Relation, K::
             let y = read_point(y)?;
             let relation = K::read_relation(relation)?;
             Ok(Call::Ask { x, y, relation })
-        }
-        Line::List => Ok(Call::List),
-        Line::If {
-            x,
-            y,
-            relation,
-            u,
-            w,
-            asked,
-        } => {
-            let x = read_point(x)?;
-            let y = read_point(y)?;
-            let u = read_point(u)?;
-            let w = read_point(w)?;
-            let relation = K::read_relation(relation)?;
-            let asked = K::read_relation(asked)?;
-            let guess = Comparison { x, y, relation };
-            let question = Comparison {
-                x: u,
-                y: w,
-                relation: asked,
-            };
-            Ok(Call::If { guess, question })
         }
     }
 }

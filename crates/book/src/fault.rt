@@ -20,7 +20,8 @@ impl BookFault {
     {
         match self {
             BookFault::Read(fault) => fault.number(),
-            BookFault::Call(refusal) => refusal.number(),
+            BookFault::Call(Refusal::OffSheet) => 5,
+            BookFault::Call(Refusal::Contrary) => 6,
         }
     }
 }

@@ -1,4 +1,4 @@
-// The memory that a book lends from: for each sheet 64 points and 128 log entries, and a page of 4,096 bytes.
+// The memory that a book lends from: for each sheet 64 points and 128 log entries.
 use conductors::Phases;
 use drums::Drums;
 use kind::Kind;
@@ -20,7 +20,6 @@ pub struct Memory {
     pub phases: SheetMemory<u8, u8>,
     pub drums: SheetMemory<u32, Pick>,
     pub temps: SheetMemory<u32, Pick>,
-    pub page: [u8; 4096],
 }
 
 impl Memory {
@@ -30,7 +29,6 @@ impl Memory {
             phases: blank::<Phases>(),
             drums: blank::<Drums>(),
             temps: blank::<Temps>(),
-            page: [0; 4096],
         }
     }
 }

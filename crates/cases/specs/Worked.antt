@@ -1,6 +1,5 @@
 -- Worked cases of orders, drums, offsets and new sheets, in one table.
 use Rattle.std.specs.Prelude.{◌≡◌, ℕ, Bool, true, false, ◌&&◌, List, [], ◌∷◌, is_some, codes, decimal}
-use Rattle.leads.specs.declared.Leads.{Leads}
 use Rattle.leads.specs.declared.Turn.{Turn}
 use Rattle.leads.specs.declared.Turn.TheVariants.{Same}
 use Rattle.leads.specs.declared.Ends.{Ends}
@@ -15,9 +14,8 @@ use Rattle.temps.specs.Temps.{temp_act, temp_inv, temp_word}
 use Rattle.kind.specs.declared.Kind.{Ghosts}
 use Rattle.table.specs.Look.{looked}
 use Rattle.table.specs.declared.questions.Answer.TheVariants.{Holds, Barred, Open}
-use Rattle.rules.specs.State.{State, new_sheet}
-use Rattle.rules.specs.Lines.{note, see}
-use Rattle.rules.specs.Calls.{Taken, accepted, answered, refused, enter, ask, called}
+use Rattle.sheet.specs.State.{State, new_sheet}
+use Rattle.sheet.specs.Calls.{Taken, accepted, answered, refused, enter, note, see, ask, called}
 
 abbrev pub phases : Ghosts (Unit {0}) ℕ ℕ
 phases = orders_kind 3

@@ -18,9 +18,8 @@ impl<'a> Desk<'a> {
     // Answers one line, and adds what is printed for it.
     pub fn answer(&mut self, line: &[u8], out: &mut Vec<u8>) -> Result<(), AllocError> {
         self.lines = self.lines.saturating_add(1);
-        self.book.clear_page();
         let reply = self.book.enter(line);
-        print_reply(out, self.lines, &self.book, reply)
+        print_reply(out, self.lines, reply)
     }
 
     // Answers each complete line of a text, and says how many bytes these take.

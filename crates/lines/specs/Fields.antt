@@ -32,18 +32,6 @@ three (a ∷ b ∷ []) = Err Shape
 three (a ∷ b ∷ c ∷ []) = Ok (a, b, c)
 three (a ∷ b ∷ c ∷ d ∷ fs) = Err Shape
 
--- three fields, and three more
-abbrev pub and_three : List ℕ → List ℕ → List ℕ → Result (List ℕ × List ℕ × List ℕ) LineFault → Result (List ℕ × List ℕ × List ℕ × List ℕ × List ℕ × List ℕ) LineFault
-and_three a b c (Ok t) = Ok (a, b, c, t.0, t.1, t.2)
-and_three a b c (Err e) = Err e
-
--- exactly six fields
-abbrev pub six : List (List ℕ) → Result (List ℕ × List ℕ × List ℕ × List ℕ × List ℕ × List ℕ) LineFault
-six [] = Err Shape
-six (a ∷ []) = Err Shape
-six (a ∷ b ∷ []) = Err Shape
-six (a ∷ b ∷ c ∷ fs) = and_three a b c (three fs)
-
 -- the bytes of two parts of a text
 abbrev pub both : Result (Bor (List ℕ) × Bor (List ℕ)) LineFault → Result (List ℕ × List ℕ) LineFault
 both (Ok p) = Ok (p.0.now, p.1.now)
@@ -53,8 +41,3 @@ both (Err e) = Err e
 abbrev pub all_three : Result (Bor (List ℕ) × Bor (List ℕ) × Bor (List ℕ)) LineFault → Result (List ℕ × List ℕ × List ℕ) LineFault
 all_three (Ok p) = Ok (p.0.now, p.1.now, p.2.now)
 all_three (Err e) = Err e
-
--- the bytes of six parts of a text
-abbrev pub all_six : Result (Bor (List ℕ) × Bor (List ℕ) × Bor (List ℕ) × Bor (List ℕ) × Bor (List ℕ) × Bor (List ℕ)) LineFault → Result (List ℕ × List ℕ × List ℕ × List ℕ × List ℕ × List ℕ) LineFault
-all_six (Ok p) = Ok (p.0.now, p.1.now, p.2.now, p.3.now, p.4.now, p.5.now)
-all_six (Err e) = Err e

@@ -2,13 +2,13 @@
 use Rattle.std.specs.Prelude.{ℕ, cond, List, [], ◌∷◌, length, Some, None, Ok, Err, codes, Option, Result, nat_lt}
 use Rattle.std.specs.Str.{bytes_eq}
 use Rattle.words.specs.Reading.{first_with}
-use Rattle.lines.specs.Fields.{fields, none, two, three, six}
+use Rattle.lines.specs.Fields.{fields, two, three}
 use Rattle.lines.specs.declared.fault.LineFault.{LineFault}
 use Rattle.lines.specs.declared.fault.LineFault.TheVariants.{Long, Shape}
 use Rattle.lines.specs.declared.line.SheetName.{SheetName}
 use Rattle.lines.specs.declared.line.SheetName.TheVariants.{Leads, Phases, Drums, Temps}
 use Rattle.lines.specs.declared.line.Line.{Line}
-use Rattle.lines.specs.declared.line.Line.TheVariants.{Note, See, Ask, List as Listing, If}
+use Rattle.lines.specs.declared.line.Line.TheVariants.{Note, See, Ask}
 use Rattle.lines.specs.declared.line.Request.{Request}
 
 -- a line by its words
@@ -16,9 +16,6 @@ pub data Said : Type 0 where
   note : List ℕ → List ℕ → List ℕ → Said
   see : List ℕ → List ℕ → Said
   ask : List ℕ → List ℕ → List ℕ → Said
-  list : Said
-  -- what is supposed, then what is asked
-  suppose : List ℕ → List ℕ → List ℕ → List ℕ → List ℕ → List ℕ → Said
 
 -- a line with the sheet that it is for
 pub record Heard : Type 0 where
@@ -29,8 +26,6 @@ abbrev pub said_of : Line → Said
 said_of (Note x y g) = note x.now y.now g.now
 said_of (See x s) = see x.now s.now
 said_of (Ask x y g) = ask x.now y.now g.now
-said_of Listing = list
-said_of (If x y g u w h) = suppose x.now y.now g.now u.now w.now h.now
 
 abbrev pub heard_of : Request → Heard
 heard_of r = record { sheet = r.sheet; said = said_of r.line }
@@ -58,9 +53,7 @@ said_by verb fs =
     cond (bytes_eq verb (codes "note")) (with (λ t. note t.0 t.1 t.2) (three fs))
     (cond (bytes_eq verb (codes "see")) (with (λ t. see t.0 t.1) (two fs))
     (cond (bytes_eq verb (codes "ask")) (with (λ t. ask t.0 t.1 t.2) (three fs))
-    (cond (bytes_eq verb (codes "list")) (with (λ _. list) (none fs))
-    (cond (bytes_eq verb (codes "if")) (with (λ t. suppose t.0 t.1 t.2 t.3 t.4 t.5) (six fs))
-    (Err Shape)))))
+    (Err Shape)))
 
 abbrev pub on_sheet : Option SheetName → Result Said LineFault → Result Heard LineFault
 on_sheet None r = Err Shape

@@ -1,6 +1,6 @@
 // The fields of a text, which tabs part.
 ghost use Rattle.std.specs.Prelude.{◌≡◌, [], ◌∷◌, MatchResult};
-ghost use Rattle.lines.specs.Fields.{remaining, none, two, three, six, both, all_three, all_six};
+ghost use Rattle.lines.specs.Fields.{remaining, none, two, three, both, all_three};
 ghost use Rattle.lines.specs.declared.fault.LineFault.TheVariants.{Shape};
 
 use crate::fault::LineFault;
@@ -19,7 +19,7 @@ pub(crate) fn field<'a>(rest: Option<&'a [u8]>) -> Result<(&'a [u8], Option<&'a 
 }
 
 // No field may follow.
-pub(crate) fn end(rest: Option<&[u8]>) -> Result<(), LineFault>
+fn end(rest: Option<&[u8]>) -> Result<(), LineFault>
     ensures { result ≡ none (remaining rest.entry) }
 {
     match rest {
@@ -47,16 +47,4 @@ pub(crate) fn three_fields<'a>(
     let (c, rest) = field(rest)?;
     end(rest)?;
     Ok((a, b, c))
-}
-
-pub(crate) fn six_fields<'a>(
-    rest: Option<&'a [u8]>,
-) -> Result<(&'a [u8], &'a [u8], &'a [u8], &'a [u8], &'a [u8], &'a [u8]), LineFault>
-    ensures { all_six result ≡ six (remaining rest.entry) }
-{
-    let (a, rest) = field(rest)?;
-    let (b, rest) = field(rest)?;
-    let (c, rest) = field(rest)?;
-    let (d, e, f) = three_fields(rest)?;
-    Ok((a, b, c, d, e, f))
 }

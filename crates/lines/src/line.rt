@@ -6,7 +6,7 @@ ghost use Rattle.lines.specs.Said.{with, sheet_named, said_of, said_by, heard, p
 ghost use Rattle.lines.specs.declared.fault.LineFault.TheVariants.{Shape};
 
 use crate::fault::LineFault;
-use crate::fields::{TAB, end, field, six_fields, three_fields, two_fields};
+use crate::fields::{TAB, field, three_fields, two_fields};
 use words::{cut, same_bytes};
 
 #[derive(Clone, Copy, PartialEq, Eq, Debug)]
@@ -33,16 +33,6 @@ pub enum Line<'a> {
         x: &'a [u8],
         y: &'a [u8],
         relation: &'a [u8],
-    },
-    List,
-    // What is asked of u and w, supposing x and y so related.
-    If {
-        x: &'a [u8],
-        y: &'a [u8],
-        relation: &'a [u8],
-        u: &'a [u8],
-        w: &'a [u8],
-        asked: &'a [u8],
     },
 }
 
@@ -97,19 +87,6 @@ fn line_of<'a>(verb: &[u8], rest: Option<&'a [u8]>) -> Result<Line<'a>, LineFaul
     } else if same_bytes(verb, b"ask") {
         let (x, y, relation) = three_fields(rest)?;
         Ok(Line::Ask { x, y, relation })
-    } else if same_bytes(verb, b"list") {
-        end(rest)?;
-        Ok(Line::List)
-    } else if same_bytes(verb, b"if") {
-        let (x, y, relation, u, w, asked) = six_fields(rest)?;
-        Ok(Line::If {
-            x,
-            y,
-            relation,
-            u,
-            w,
-            asked,
-        })
     } else {
         Err(LineFault::Shape)
     }

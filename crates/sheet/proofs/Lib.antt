@@ -1,6 +1,2 @@
 mod Entering
 mod Framing
-mod Listed
-mod Logs
-mod PageTold
-mod Writing

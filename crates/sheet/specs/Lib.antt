@@ -1,5 +1,7 @@
+pub mod Calls
 pub mod Frame
-pub mod Log
-pub mod Looks
 pub mod Refusals
+pub mod State
+pub mod Step
 pub mod View
+pub mod Words

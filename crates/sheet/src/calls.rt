@@ -3,12 +3,10 @@ ghost use Rattle.std.specs.Prelude.{◌≡◌, ◌&&◌, take};
 ghost use Rattle.table.specs.Look.{Looks};
 ghost use Rattle.table.specs.Note.{Meets};
 ghost use Rattle.table.specs.See.{Narrows};
-ghost use Rattle.rules.specs.Calls.{enter, ask};
-ghost use Rattle.rules.specs.Lines.{note, see};
-ghost use Rattle.rules.specs.Reached.{Makes};
-ghost use Rattle.rules.specs.State.{on};
+ghost use Rattle.sheet.specs.Calls.{enter, note, see, ask};
 ghost use Rattle.sheet.specs.Frame.{Frame, RefusedUnchanged};
-ghost use Rattle.sheet.specs.Looks.{LooksAt};
+ghost use Rattle.sheet.specs.State.{on};
+ghost use Rattle.sheet.specs.Step.{Step, LooksAt};
 ghost use Rattle.sheet.specs.View.{view, entering, asking};
 
 use crate::refusal::Refusal;
@@ -18,47 +16,46 @@ use table::{Answer, Meeting, Narrowing, Node};
 
 impl<'a, K: Kind> Sheet<'a, K> {
     // The points in use.
-    pub(crate) fn table(&self) -> &[Node<K::Relation, K::Set>]
+    fn table(&self) -> &[Node<K::Relation, K::Set>]
         ensures { result.now ≡ take 256 self.now.nodes.now }
     {
         let n = self.nodes.len().min(256);
         &self.nodes[0..n]
     }
 
-    // Whether x is a point of the sheet.
-    pub fn has(&self, x: u8) -> bool
-        ensures { result ≡ on (view K.Kind self.now) x }
+    fn has(&self, x: u8) -> bool
+        ensures { result ≡ on (view self.now) x }
     {
         (x as usize) < self.table().len()
     }
 
     fn has_both(&self, x: u8, y: u8) -> bool
-        ensures { result ≡ (on (view K.Kind self.now) x && on (view K.Kind self.now) y) }
+        ensures { result ≡ (on (view self.now) x && on (view self.now) y) }
     {
         self.has(x) && self.has(y)
     }
 
     fn meeting(&self, x: u8, y: u8, g: K::Relation) -> Meeting<K::Relation, K::Set>
-        ensures { Meets K.Kind (view K.Kind self.now).table x y g result }
+        ensures { Meets K.Kind (view self.now).table x y g result }
     {
         table::meet::<K>(self.table(), x, y, g)
     }
 
     fn narrowing(&self, x: u8, s: K::Set) -> Narrowing<K::Set>
-        ensures { Narrows K.Kind (view K.Kind self.now).table x s result }
+        ensures { Narrows K.Kind (view self.now).table x s result }
     {
         table::narrow::<K>(self.table(), x, s)
     }
 
     fn values(&self, x: u8) -> K::Set
-        ensures { Looks K.Kind (view K.Kind self.now).table x result }
+        ensures { Looks K.Kind (view self.now).table x result }
     {
         table::look::<K>(self.table(), x)
     }
 
     // Notes that the value of x is g applied to the value of y.
     pub fn note(&mut self, x: u8, y: u8, g: K::Relation) -> Result<(), Refusal>
-        ensures makes { Makes K.Kind (view K.Kind self.old) (enter (note x y g)) (entering result) (view K.Kind self.new) }
+        ensures step { Step K.Kind (view self.old) (enter (note x y g)) (entering result) (view self.new) }
         ensures unchanged { RefusedUnchanged result self.old self.new }
         ensures frame { Frame self.old self.new }
         ensures nodes_lent { self.new.nodes.ghost_name ≡ self.old.nodes.ghost_name }
@@ -71,17 +68,13 @@ impl<'a, K: Kind> Sheet<'a, K> {
         if table::is_empty::<K>(meeting.left) {
             return Err(Refusal::Contrary);
         }
-        if self.is_full() {
-            return Err(Refusal::TrialFull);
-        }
-        self.keep(meeting.first, meeting.second);
         table::join::<K>(self.nodes, meeting);
         Ok(())
     }
 
     // Notes that the value of x belongs to s.
     pub fn see(&mut self, x: u8, s: K::Set) -> Result<(), Refusal>
-        ensures makes { Makes K.Kind (view K.Kind self.old) (enter (see x s)) (entering result) (view K.Kind self.new) }
+        ensures step { Step K.Kind (view self.old) (enter (see x s)) (entering result) (view self.new) }
         ensures unchanged { RefusedUnchanged result self.old self.new }
         ensures frame { Frame self.old self.new }
         ensures nodes_lent { self.new.nodes.ghost_name ≡ self.old.nodes.ghost_name }
@@ -94,17 +87,13 @@ impl<'a, K: Kind> Sheet<'a, K> {
         if table::is_empty::<K>(narrowing.left) {
             return Err(Refusal::Contrary);
         }
-        if self.is_full() {
-            return Err(Refusal::TrialFull);
-        }
-        self.keep(narrowing.reference, narrowing.reference);
         table::settle::<K>(self.nodes, narrowing.reference, narrowing.left);
         Ok(())
     }
 
     // Asks whether the value of x is g applied to the value of y.
     pub fn ask(&self, x: u8, y: u8, g: K::Relation) -> Result<Answer, Refusal>
-        ensures { Makes K.Kind (view K.Kind self.now) (ask x y g) (asking result) (view K.Kind self.now) }
+        ensures { Step K.Kind (view self.now) (ask x y g) (asking result) (view self.now) }
     {
         if !self.has_both(x, y) {
             return Err(Refusal::OffSheet);
@@ -114,7 +103,7 @@ impl<'a, K: Kind> Sheet<'a, K> {
 
     // The set of values that x may still have.
     pub fn look(&self, x: u8) -> Result<K::Set, Refusal>
-        ensures { LooksAt K.Kind (view K.Kind self.now) x result }
+        ensures { LooksAt K.Kind (view self.now) x result }
     {
         if !self.has(x) {
             return Err(Refusal::OffSheet);

@@ -1,8 +1,6 @@
 // Opening a sheet.
 ghost use Rattle.std.specs.Prelude.{◌≡◌, ◌/◌, min, length, drop};
-ghost use Rattle.rules.specs.Reached.{Reached, WhateverFollows};
-ghost use Rattle.rules.specs.Standing.{nothing_stands};
-ghost use Rattle.rules.specs.State.{new_sheet};
+ghost use Rattle.sheet.specs.State.{new_sheet};
 ghost use Rattle.sheet.specs.View.{view};
 
 use crate::entry::Entry;
@@ -16,19 +14,12 @@ pub fn open<'a, K: Kind>(
     log: &'a mut [Entry<K::Relation, K::Set>],
     number: u8,
 ) -> Sheet<'a, K>
-    ensures state { view K.Kind result ≡ new_sheet K.Kind number (min (length nodes.old) 256) (min (length log.old) 512 / 2) }
-    ensures follows { WhateverFollows K.Kind (min (length nodes.old) 256) number (min (length log.old) 512 / 2) (view K.Kind result) }
-    ensures reached { Reached K.Kind (min (length nodes.old) 256) number (min (length log.old) 512 / 2) (view K.Kind result) nothing_stands }
+    ensures state { view result ≡ new_sheet K.Kind number (min (length nodes.old) 256) (min (length log.old) 512 / 2) }
     ensures past { drop 256 result.nodes.now ≡ drop 256 nodes.old }
     ensures log { result.log.now ≡ log.old }
     ensures nodes_lent { result.nodes.ghost_name ≡ nodes.entry.ghost_name }
     ensures log_lent { result.log.ghost_name ≡ log.entry.ghost_name }
 {
     renew::<K>(nodes);
-    Sheet {
-        nodes,
-        log,
-        number,
-        trial: None,
-    }
+    Sheet { nodes, log, number }
 }

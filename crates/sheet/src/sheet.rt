@@ -8,6 +8,4 @@ pub struct Sheet<'a, K: Kind> {
     pub(crate) nodes: &'a mut [Node<K::Relation, K::Set>],
     pub(crate) log: &'a mut [Entry<K::Relation, K::Set>],
     pub(crate) number: u8,
-    // How many lines the open trial has accepted, if one is open.
-    pub(crate) trial: Option<u16>,
 }
