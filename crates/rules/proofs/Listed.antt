@@ -1,6 +1,6 @@
 -- The lines of a listing say what its table says.
 use Rattle.std.proofs.Common.{◌≡◌, ℕ, zero, suc, ◌+◌, ◌<◌, ◌≤◌, eqb, ◌↔◌, List, [], ◌∷◌, ◌++◌, length, sym, ap, ◌∙◌, subst, inl, inr, arith}
-use Rattle.std.specs.List.{AllByRecursion as All}
+use Rattle.std.specs.List.{AllByRecursion}
 use Rattle.std.proofs.ByRecursion.{All-append}
 use Rattle.std.proofs.lemmas.Bool.{eqb-true, eqb-false, cases_eq, cond_both}
 use Rattle.kind.specs.declared.Kind.{Ghosts}
@@ -15,7 +15,7 @@ use Rattle.rules.proofs.Values.{In}
 use Rattle.rules.proofs.Tables.{Sound, Reads, walked_ends, walked_says, spread, spread_root, spread_reads}
 
 -- what holds of each element of two lists that are joined, part by part
-pub all_parts : {X : Type 0} (P : X → Type 0) (xs ys : List X) → All P (xs ++ ys) → All P xs × All P ys
+pub all_parts : {X : Type 0} (P : X → Type 0) (xs ys : List X) → AllByRecursion P (xs ++ ys) → AllByRecursion P xs × AllByRecursion P ys
 all_parts P [] ys h = (tt, h)
 all_parts P (x ∷ xs) ys h = let rest = all_parts P xs ys h.1 in ((h.0, rest.0), rest.1)
 
@@ -26,9 +26,9 @@ module _ {K R S : Type 0} (k : Ghosts K R S) (laws : Lawful k) (n : ℕ) (t : Li
       ((at k t x).link ≡ x → In k (at k t x).set (a x))
       × (¬ ((at k t x).link ≡ x) → a x ≡ k.act (walked k t x).relation (a (walked k t x).reference))
 
-  point_on : (x : ℕ) → x < n → All (On n) (point_lines k t x)
-  point_on x h = cond_both (eqb (at k t x).link x) _ _ (All (On n))
-      (λ e. cond_both (k.inside k.full (at k t x).set) _ _ (All (On n)) (λ w. tt) (λ w. ((h, h), tt)))
+  point_on : (x : ℕ) → x < n → AllByRecursion (On n) (point_lines k t x)
+  point_on x h = cond_both (eqb (at k t x).link x) _ _ (AllByRecursion (On n))
+      (λ e. cond_both (k.inside k.full (at k t x).set) _ _ (AllByRecursion (On n)) (λ w. tt) (λ w. ((h, h), tt)))
       (λ e. ((h, (walked_ends k laws n t sound x h).on), tt))
 
   module _ (a : ℕ → ℕ) (small : Assigns k n a) where
@@ -48,16 +48,16 @@ module _ {K R S : Type 0} (k : Ghosts K R S) (laws : Lawful k) (n : ℕ) (t : Li
         (λ e obeyed. (λ root. absurd (eqb-false _ _ e root), λ away. obeyed.0))
 
   -- what holds of the lines of each point holds of a listing, and conversely
-  listed_down : (P : Line R S → Type 0) → ((x : ℕ) → x < n → All P (point_lines k t x)) → (x m : ℕ) → x + m ≤ n → All P (listed_from k t x m)
+  listed_down : (P : Line R S → Type 0) → ((x : ℕ) → x < n → AllByRecursion P (point_lines k t x)) → (x m : ℕ) → x + m ≤ n → AllByRecursion P (listed_from k t x m)
   listed_down P each x zero h = tt
   listed_down P each x (suc m) h = All-append P _ _ (each x (omega arith)) (listed_down P each (suc x) m (omega arith))
 
-  listed_up : (P : Line R S → Type 0) (x m : ℕ) → x + m ≤ n → All P (listed_from k t x m) → (y : ℕ) → x ≤ y → y < x + m → All P (point_lines k t y)
+  listed_up : (P : Line R S → Type 0) (x m : ℕ) → x + m ≤ n → AllByRecursion P (listed_from k t x m) → (y : ℕ) → x ≤ y → y < x + m → AllByRecursion P (point_lines k t y)
   listed_up P x zero h all y from to = absurd (omega arith)
   listed_up P x (suc m) h all y from to =
       let parts = all_parts P (point_lines k t x) (listed_from k t (suc x) m) all in
       elim (cases_eq y x) [
-        | inl e ↦ subst (λ z. All P (point_lines k t z)) (sym e) parts.0
+        | inl e ↦ subst (λ z. AllByRecursion P (point_lines k t z)) (sym e) parts.0
         | inr ne ↦ listed_up P (suc x) m (omega arith) parts.1 y (omega arith) (omega arith)
       ]
 
@@ -85,5 +85,5 @@ module _ {K R S : Type 0} (k : Ghosts K R S) (laws : Lawful k) (n : ℕ) (t : Li
         λ reads. listed_down (Obeys k a) (point_down a small reads) 0 (length t) all,
       )
 
-  pub listing_on : All (On n) (lines_of k t)
+  pub listing_on : AllByRecursion (On n) (lines_of k t)
   listing_on = listed_down (On n) point_on 0 (length t) (omega (arith, sound.size))

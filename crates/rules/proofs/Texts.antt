@@ -1,6 +1,6 @@
 -- What is written is read back: the text of some lines is read as lines that the same assignments obey.
 use Rattle.std.proofs.Common.{◌≡◌, ℕ, ◌<◌, ◌≤◌, true, false, ◌↔◌, List, [], ◌∷◌, ◌++◌, is_some, Some, None, codes, decimal, Option, sym, refl, ap, ◌∙◌, append_assoc, arith}
-use Rattle.std.specs.List.{AllByRecursion as All}
+use Rattle.std.specs.List.{AllByRecursion}
 use Rattle.std.proofs.ByRecursion.{All-append}
 use Rattle.std.proofs.lemmas.Bool.{both_ways, cond-true, lt-ltb}
 use Rattle.words.specs.Parts.{parts}
@@ -91,7 +91,7 @@ module _ {K R S : Type 0} (k : Ghosts K R S) (laws : Lawful k) (worded : Worded 
   lines_more line [] l ls p q = unread q
   lines_more line (next ∷ rest) l ls p q = λ i. bind (p i) (λ m. bind (q i) (λ ms. Some (m ∷ ms)))
 
-  pub text_means : (n : ℕ) → n ≤ 256 → (ls : List (Line R S)) → All (On n) ls
+  pub text_means : (n : ℕ) → n ≤ 256 → (ls : List (Line R S)) → AllByRecursion (On n) ls
       → (ms : List (Line R S)) × (text_read k (text_of k ls) ≡ Some ms) × ((a : ℕ → ℕ) → Assigns k n a → ObeysAll k a ms ↔ ObeysAll k a ls)
   text_means n few [] on = ([], refl, λ a low. (λ o. o, λ o. o))
   text_means n few (l ∷ ls) on =

@@ -1,6 +1,6 @@
 -- Standing lines: a list made from the calls, their arguments and whether each was refused.
 use Rattle.std.specs.Prelude.{◌≡◌, ℕ, ◌+◌, ◌<◌, ◌≤◌, true, ◌↔◌, List, [], ◌∷◌, ◌++◌, length}
-use Rattle.std.specs.List.{AllByRecursion as All}
+use Rattle.std.specs.List.{AllByRecursion}
 use Rattle.kind.specs.declared.Kind.{Ghosts}
 use Rattle.rules.specs.Lines.{Line, note, see, first_of, second_of}
 use Rattle.rules.specs.Calls.{Call, enter, ask, suppose, adopt, retract, listing, Outcome, accepted, answered, handed, listed, refused}
@@ -67,7 +67,7 @@ module _ {K R S : Type 0} (k : Ghosts K R S) where
   Obeys a (see x s) = k.has s (a x) ≡ true
 
   abbrev pub ObeysAll : (ℕ → ℕ) → List (Line R S) → Type 0
-  ObeysAll a ls = All (Obeys a) ls
+  ObeysAll a ls = AllByRecursion (Obeys a) ls
 
   -- every assignment that obeys the lines obeys l
   abbrev pub Follows : ℕ → List (Line R S) → Line R S → Type 0

@@ -1,6 +1,6 @@
 -- Parts, byte by byte.
 use Rattle.std.proofs.Common.{◌≡◌, ℕ, ◌+◌, ◌<◌, ◌≤◌, true, List, [], ◌∷◌, ◌++◌, length, get_or, take, drop, sym, refl, ap, ◌∙◌, append_assoc, append-nil}
-use Rattle.std.specs.List.{AllByRecursion as All}
+use Rattle.std.specs.List.{AllByRecursion}
 use Rattle.std.proofs.lemmas.List.{take_all, take_more, at_drop_more, at_drop_all}
 use Rattle.std.proofs.lemmas.Bool.{eq-eqb, ne_eqb, eqb-false, cond-true, cond-false, and_parts, not-true}
 use Rattle.words.specs.Parts.{onto, parts}
@@ -46,7 +46,7 @@ module _ (c : ℕ) (s : List ℕ) where
 
 -- the byte c is not among those bytes
 abbrev pub Lacks : ℕ → List ℕ → Type 0
-Lacks c p = All (λ b. b ≡ c → ⊥) p
+Lacks c p = AllByRecursion (λ b. b ≡ c → ⊥) p
 
 pub parts_before : (c : ℕ) (p rest : List ℕ) → Lacks c p → parts c (p ++ (c ∷ rest)) ≡ p ∷ parts c rest
 parts_before c [] rest h = cond-true _ _ _ (eq-eqb c c refl)
