@@ -3,6 +3,7 @@ use Rattle.std.proofs.Common.{◌≡◌, ℕ, ◌<◌, Bool, true, false, ◌&&�
 use Rattle.std.proofs.lemmas.Bool.{eqb-true, eqb-false, eq-eqb, ne_eqb}
 use Rattle.kind.specs.declared.Kind.{Ghosts}
 use Rattle.kind.specs.Same.{SameMoves, SameMembers}
+use Rattle.kind.proofs.Inverses.{inverses_alike}
 use Rattle.kind.proofs.Lawful.{Lawful}
 use Rattle.kind.proofs.Members.{members_none, none_passes, members_alike, some_passes}
 
@@ -18,10 +19,7 @@ module _ {K R S : Type 0} (k : Ghosts K R S) (laws : Lawful k) where
       laws.comp_acts g h v low ∙ p _ (laws.closed h v low) ∙ ap (k.act g') (q v low) ∙ sym (laws.comp_acts g' h' v low)
 
   pub inv_alike : (g h : R) → SameMoves k g h → SameMoves k (k.inv g) (k.inv h)
-  inv_alike g h p v low =
-      let w = k.act (k.inv g) v in
-      let w_low = laws.closed (k.inv g) v low in
-      sym (laws.inv_left h w w_low) ∙ ap (k.act (k.inv h)) (sym (p w w_low) ∙ laws.inv_right g v low)
+  inv_alike = inverses_alike k.span k.act k.inv laws.closed laws.inv_left laws.inv_right
 
   pub assoc_alike : (f g h : R) → SameMoves k (k.comp f (k.comp g h)) (k.comp (k.comp f g) h)
   assoc_alike f g h v low =

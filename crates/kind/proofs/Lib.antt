@@ -1,4 +1,5 @@
 pub mod Alike
+pub mod Inverses
 pub mod Lawful
 pub mod Members
 pub mod Tried

@@ -1,6 +1,7 @@
 -- The laws of the far-end layer that a search does not find, from those of the kind below that each takes.
 use Rattle.std.specs.Prelude.{◌≡◌, ℕ, ◌<◌}
 use Rattle.std.proofs.Common.{sym, ap, ◌∙◌}
+use Rattle.kind.proofs.Inverses.{inverses_alike}
 
 -- two relations that move every value below the span alike
 abbrev pub MovesAlike : {R : Type 0} → ℕ → (R → ℕ → ℕ) → R → R → Type 0
@@ -23,10 +24,7 @@ module _ {R : Type 0} (span : ℕ) (act : R → ℕ → ℕ) (inv : R → R) (cl
         back (comp h g) _ v deep (comp_acts h g _ deep ∙ ap (act h) (inv_right g _ below) ∙ inv_right h v low)
 
     pub far_tells : {W : Type 0} (word : R → W) → ((g h : R) → word g ≡ word h → MovesAlike span act g h) → (g h : R) → word g ≡ word h → MovesAlike span act (inv g) (inv h)
-    far_tells word word_tells g h e v low =
-        let w = act (inv g) v in
-        let w_low = closed (inv g) v low in
-        sym (inv_left h w w_low) ∙ ap (act (inv h)) (sym (word_tells g h e w w_low) ∙ inv_right g v low)
+    far_tells word word_tells g h e = inverses_alike span act inv closed inv_left inv_right g h (word_tells g h e)
 
     pub far_told : {W : Type 0} (word : R → W) → ((g h : R) → MovesAlike span act g h → word g ≡ word h) → (g h : R) → MovesAlike span act (inv g) (inv h) → word g ≡ word h
     far_told word word_told g h e =
