@@ -3,7 +3,7 @@ use Rattle.std.specs.Prelude.{◌≡◌, ℕ, List, Ok, Err, Result}
 use Rattle.leads.specs.declared.Turn.{Turn}
 use Rattle.leads.specs.declared.Ends.{Ends}
 use Rattle.picks.specs.declared.Pick.{Pick}
-use Rattle.sheet.specs.Frame.{Frame, RefusedUnchanged}
+use Rattle.sheet.specs.Frame.{Keeps, RefusedUnchanged}
 use Rattle.sheet.specs.State.{State, new_sheet}
 use Rattle.sheet.specs.Calls.{Outcome, refused}
 use Rattle.sheet.specs.View.{view}
@@ -77,12 +77,12 @@ pub record BookStep (b : Sheets) (text : List ℕ) (o : Outcome) (b' : Sheets) :
   pub outcome : o ≡ (book_taken b text).outcome
   pub left : SameBook b' (book_taken b text).left
 
--- nothing past the used nodes and log entries of a sheet is written
-pub record BookFrame (a b : code.Book) : Type 0 where
-  pub leads : Frame a.leads b.leads
-  pub phases : Frame a.phases b.phases
-  pub drums : Frame a.drums b.drums
-  pub temps : Frame a.temps b.temps
+-- every sheet keeps what a call does not touch, and lies in the memory that it lay in
+pub record BookKeeps (a b : code.Book) : Type 0 where
+  pub leads : Keeps a.leads b.leads
+  pub phases : Keeps a.phases b.phases
+  pub drums : Keeps a.drums b.drums
+  pub temps : Keeps a.temps b.temps
 
 -- a refusal leaves every node and every log entry of every sheet as it was
 pub record BookUnchanged {T E : Type 0} (r : Result T E) (a b : code.Book) : Type 0 where

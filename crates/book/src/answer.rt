@@ -1,23 +1,37 @@
 // Answering a line on its sheet.
-ghost use Rattle.std.specs.Prelude.{◌≡◌};
-ghost use Rattle.sheet.specs.Frame.{Frame, RefusedUnchanged};
+ghost use Rattle.std.specs.Prelude.{Some};
+ghost use Rattle.sheet.specs.Frame.{Keeps, RefusedUnchanged};
 ghost use Rattle.sheet.specs.Step.{Step};
 ghost use Rattle.sheet.specs.View.{view};
-ghost use Rattle.book.specs.Answers.{LineStep, called_outcome, replied};
+ghost use Rattle.book.specs.Answers.{LineStep, called_outcome, replied, reply_outcome};
+ghost use Rattle.book.specs.Printed.{told};
 ghost use Rattle.book.specs.Requests.{call_meant};
 ghost use Rattle.lines.specs.Said.{said_of};
 
 use crate::call::{Call, read_call};
 use crate::fault::BookFault;
 use kind::Kind;
-use lines::Line;
+use lines::{Line, Saying};
 use sheet::{Refusal, Sheet};
+use std::fmt;
 use table::Answer;
 
+// No Option of an answer: `Ok(None)` would not say that a line is accepted.
 #[derive(Clone, Copy, PartialEq, Eq, Debug)]
 pub enum Reply {
     Accepted,
     Answered(Answer),
+}
+
+impl fmt::Display for Reply {
+    ghost output = { λ reply. Some (told (reply_outcome reply)) };
+
+    fn fmt<W: fmt::Write>(&self, f: &mut fmt::Formatter<W>) -> fmt::Result {
+        match self {
+            Reply::Accepted => f.write_str("ok"),
+            Reply::Answered(answer) => write!(f, "{answer}"),
+        }
+    }
 }
 
 fn take<K: Kind>(
@@ -26,34 +40,28 @@ fn take<K: Kind>(
 ) -> Result<Reply, Refusal>
     ensures step { Step K.Kind (view sheet.old) (call_meant call) (called_outcome result) (view sheet.new) }
     ensures unchanged { RefusedUnchanged result sheet.old sheet.new }
-    ensures frame { Frame sheet.old sheet.new }
-    ensures nodes_lent { sheet.new.nodes.ghost_name ≡ sheet.old.nodes.ghost_name }
-    ensures log_lent { sheet.new.log.ghost_name ≡ sheet.old.log.ghost_name }
+    ensures keeps { Keeps sheet.old sheet.new }
 {
-    match call {
-        Call::Note { x, y, relation } => {
-            sheet.note(x, y, relation)?;
-            Ok(Reply::Accepted)
+    let reply = match call {
+        Saying::Note(c) => {
+            sheet.note(c.x, c.y, c.relation)?;
+            Reply::Accepted
         }
-        Call::See { x, set } => {
+        Saying::See { x, set } => {
             sheet.see(x, set)?;
-            Ok(Reply::Accepted)
+            Reply::Accepted
         }
-        Call::Ask { x, y, relation } => {
-            let answer = sheet.ask(x, y, relation)?;
-            Ok(Reply::Answered(answer))
-        }
-    }
+        Saying::Ask(c) => Reply::Answered(sheet.ask(c.x, c.y, c.relation)?),
+    };
+    Ok(reply)
 }
 
 pub(crate) fn answer<K: Kind>(sheet: &mut Sheet<'_, K>, line: Line<'_>) -> Result<Reply, BookFault>
     ensures step { LineStep K.Kind (view sheet.old) (said_of line.entry) (replied result) (view sheet.new) }
     ensures unchanged { RefusedUnchanged result sheet.old sheet.new }
-    ensures frame { Frame sheet.old sheet.new }
-    ensures nodes_lent { sheet.new.nodes.ghost_name ≡ sheet.old.nodes.ghost_name }
-    ensures log_lent { sheet.new.log.ghost_name ≡ sheet.old.log.ghost_name }
+    ensures keeps { Keeps sheet.old sheet.new }
 {
     let call = read_call::<K>(line)?;
-    let reply = take::<K>(sheet, call)?;
+    let reply = take(sheet, call)?;
     Ok(reply)
 }

@@ -1,39 +1,35 @@
 // A line with its fields read.
 ghost use Rattle.std.specs.Prelude.{◌≡◌};
-ghost use Rattle.book.specs.Requests.{meant, call_of};
+ghost use Rattle.book.specs.Requests.{meant, comparison_of, call_of};
 ghost use Rattle.lines.specs.Said.{said_of};
 
 use kind::Kind;
-use lines::{Line, LineFault, read_point};
+use lines::{Comparison, Line, LineFault, Saying, read_point};
 
-#[derive(Clone, Copy)]
-pub(crate) enum Call<R, S> {
-    Note { x: u8, y: u8, relation: R },
-    See { x: u8, set: S },
-    Ask { x: u8, y: u8, relation: R },
-}
+pub(crate) type Call<R, S> = Saying<u8, R, S>;
 
 // Points are read before words, so that a bad point is told first.
 pub(crate) fn read_call<K: Kind>(line: Line<'_>) -> Result<Call<K::Relation, K::Set>, LineFault>
     ensures { meant result ≡ call_of K.Kind (said_of line.entry) }
 {
     match line {
-        Line::Note { x, y, relation } => {
-            let x = read_point(x)?;
-            let y = read_point(y)?;
-            let relation = K::read_relation(relation)?;
-            Ok(Call::Note { x, y, relation })
-        }
-        Line::See { x, set } => {
+        Saying::Note(typed) => Ok(Saying::Note(read_comparison::<K>(typed)?)),
+        Saying::See { x, set } => {
             let x = read_point(x)?;
             let set = K::read_set(set)?;
-            Ok(Call::See { x, set })
+            Ok(Saying::See { x, set })
         }
-        Line::Ask { x, y, relation } => {
-            let x = read_point(x)?;
-            let y = read_point(y)?;
-            let relation = K::read_relation(relation)?;
-            Ok(Call::Ask { x, y, relation })
-        }
+        Saying::Ask(typed) => Ok(Saying::Ask(read_comparison::<K>(typed)?)),
     }
+}
+
+fn read_comparison<K: Kind>(
+    typed: Comparison<&[u8], &[u8]>,
+) -> Result<Comparison<u8, K::Relation>, LineFault>
+    ensures { result ≡ comparison_of K.Kind typed.entry.x.now typed.entry.y.now typed.entry.relation.now }
+{
+    let x = read_point(typed.x)?;
+    let y = read_point(typed.y)?;
+    let relation = K::read_relation(typed.relation)?;
+    Ok(Comparison { x, y, relation })
 }

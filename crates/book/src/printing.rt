@@ -1,57 +1,12 @@
 // Replies as they are printed.
-ghost use Rattle.std.specs.Prelude.{◌≡◌, [], ◌∷◌, ◌++◌, decimal, OnOk};
-ghost use Rattle.table.specs.Ask.{answer_word};
+ghost use Rattle.std.specs.Prelude.{◌≡◌, ◌++◌, OnOk};
 ghost use Rattle.book.specs.Answers.{replied};
-ghost use Rattle.book.specs.Printed.{printed, told};
+ghost use Rattle.book.specs.Printed.{printed};
 
 use crate::answer::Reply;
 use crate::fault::BookFault;
 use std::alloc::AllocError;
-use table::Answer;
-use words::Word;
-
-fn push_byte(out: &mut Vec<u8>, b: u8) -> Result<(), AllocError>
-    ensures { OnOk result (out.new.items ≡ out.old.items ++ (b ∷ [])) }
-{
-    out.push(b)?;
-    Ok(())
-}
-
-fn push_bytes(out: &mut Vec<u8>, bytes: &[u8]) -> Result<(), AllocError>
-    ensures { OnOk result (out.new.items ≡ out.old.items ++ bytes.now) }
-{
-    out.extend_from_slice(bytes)
-}
-
-fn push_number(out: &mut Vec<u8>, n: u32) -> Result<(), AllocError>
-    ensures { OnOk result (out.new.items ≡ out.old.items ++ decimal n) }
-{
-    let numeral = Word::decimal(n);
-    push_bytes(out, numeral.as_slice())
-}
-
-fn answer_word(answer: Answer) -> &'static [u8]
-    ensures { result.now ≡ answer_word answer }
-{
-    match answer {
-        Answer::Holds => b"holds",
-        Answer::Barred => b"barred",
-        Answer::Open => b"open",
-    }
-}
-
-fn push_told(out: &mut Vec<u8>, reply: Result<Reply, BookFault>) -> Result<(), AllocError>
-    ensures { OnOk result (out.new.items ≡ out.old.items ++ told (replied reply)) }
-{
-    match reply {
-        Ok(Reply::Accepted) => push_bytes(out, b"ok"),
-        Ok(Reply::Answered(answer)) => push_bytes(out, answer_word(answer)),
-        Err(fault) => {
-            push_bytes(out, b"refused\t")?;
-            push_number(out, u32::from(fault.number()))
-        }
-    }
-}
+use std::io::Write;
 
 // Adds the line that is printed for a reply to the line of that number.
 pub fn print_reply(
@@ -61,8 +16,10 @@ pub fn print_reply(
 ) -> Result<(), AllocError>
     ensures { OnOk result (out.new.items ≡ out.old.items ++ printed number (replied reply)) }
 {
-    push_number(out, number)?;
-    push_byte(out, b'\t')?;
-    push_told(out, reply)?;
-    push_byte(out, b'\n')
+    let written = match reply {
+        Ok(reply) => writeln!(out, "{number}\t{reply}"),
+        Err(fault) => writeln!(out, "{number}\t{fault}"),
+    };
+    // A Vec takes all but for want of memory
+    written.map_err(|_| AllocError)
 }

@@ -1,6 +1,4 @@
 // A book with the count of its lines.
-ghost use Rattle.std.specs.Prelude.{◌≤◌, length, IfOk};
-
 use book::{Book, print_reply};
 use std::alloc::AllocError;
 
@@ -20,19 +18,5 @@ impl<'a> Desk<'a> {
         self.lines = self.lines.saturating_add(1);
         let reply = self.book.enter(line);
         print_reply(out, self.lines, reply)
-    }
-
-    // Answers each complete line of a text, and says how many bytes these take.
-    pub fn answer_lines(&mut self, text: &[u8], out: &mut Vec<u8>) -> Result<usize, AllocError>
-        ensures { IfOk result (λ used. used ≤ length text.now) }
-    {
-        let mut used = 0;
-        for (i, b) in text.iter().enumerate() {
-            if *b == b'\n' {
-                self.answer(&text[used..i], out)?;
-                used = i + 1;
-            }
-        }
-        Ok(used)
     }
 }

@@ -1,4 +1,3 @@
-mod Filled
 mod Gathered
 mod OrderSteps
 mod Rounds

@@ -1,7 +1,8 @@
 -- A number of an order, and its remainder by the number of orders, stand for one order.
-use Rattle.std.proofs.Common.{◌≡◌, ℕ, zero, suc, ◌+◌, ◌*◌, ◌/◌, ◌%◌, ◌<◌, cond, eqb, sym, refl, ap, ◌∙◌, mod-lt, mod-eq_of_lt, mul_assoc, mul_comm, add-mul, arith}
-use native.Mathlib.Nat.{mod-mod_of_dvd, dvd-mul_right, add-mul-mod_self_left}
-use Rattle.std.proofs.lemmas.Nat.{div-add-mod', mul-add-lt, div-mul-add}
+use Rattle.std.proofs.Common.{◌≡◌, ℕ, zero, suc, ◌*◌, ◌/◌, ◌%◌, ◌<◌, cond, eqb, refl, ap, ◌∙◌, mod-lt, mul_comm, arith}
+use native.Mathlib.Nat.{mod-mod_of_dvd, dvd-mul_right}
+use Rattle.std.proofs.Math.Arith.{mod-mul}
+use Rattle.std.proofs.lemmas.Nat.{div-mul-add}
 use Rattle.conductors.specs.Orders.{past, back, takes, brings, order_comp, order_inv}
 use Rattle.conductors.specs.OrderNumbers.{orders, numbered_alike, numbered_below}
 
@@ -11,14 +12,7 @@ some_orders n = let low = numbered_below n (λ v. v) in omega arith
 -- the remainder by a product has the remainder of the quotient for its quotient
 quotient : (a b k : ℕ) → 0 < a → 0 < b → k % (a * b) / a ≡ k / a % b
 quotient a b k some many =
-    let q = k / a in
-    let r = q % b in
-    let low : r * a + k % a < a * b = mul-add-lt r a (k % a) b (mod-lt q many) (mod-lt k some) in
-    let high : q / b * b * a ≡ a * b * (q / b) = ap (λ x. x * a) (mul_comm (q / b) b) ∙ mul_comm (b * (q / b)) a ∙ sym (mul_assoc a b (q / b)) in
-    let whole : k ≡ r * a + k % a + a * b * (q / b) =
-    sym (div-add-mod' k a) ∙ ap (λ x. x * a + k % a) (sym (div-add-mod' q b)) ∙ ap (λ x. x + k % a) (add-mul (q / b * b) r a) ∙ omega (arith, high) in
-    ap (λ x. x % (a * b) / a) whole ∙ ap (λ x. x / a) (add-mul-mod_self_left (r * a + k % a) (a * b) (q / b) ∙ mod-eq_of_lt low)
-    ∙ div-mul-add r a (k % a) (mod-lt k some)
+    ap (λ x. k % x / a) (mul_comm a b) ∙ ap (λ x. x / a) (mod-mul k many some) ∙ div-mul-add (k / a % b) a (k % a) (mod-lt k some)
 
 module _ (m k : ℕ) where
   first : k % (suc m * orders m) % suc m ≡ k % suc m

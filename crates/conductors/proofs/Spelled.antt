@@ -1,33 +1,26 @@
 -- Digits that are written from the lowest on.
-use Rattle.std.proofs.Common.{◌≡◌, ℕ, ◌+◌, ◌<◌, ◌≤◌, Bool, true, false, List, [], ◌∷◌, ◌++◌, length, take, set, sym, refl, ap, ◌∙◌, add-one, arith, length-set}
-use Rattle.std.proofs.lemmas.List.{append-nil, take_more_set}
-use Rattle.std.proofs.lemmas.Bool.{cond-true, cond-false}
+use Rattle.std.proofs.Common.{◌≡◌, ℕ, ◌+◌, ◌≤◌, Bool, true, false, cond, List, [], ◌∷◌, ◌++◌, length, sym, refl, ap, ◌∙◌, add-one}
+use Rattle.std.proofs.lemmas.List.{append-nil}
+use Rattle.kind.proofs.Members.{members_le}
 use Rattle.conductors.specs.OrderWords.{digits}
+use Rattle.conductors.specs.Digits.{digits_long}
 
--- the first len of four bytes are the digits of those below v that pass the test
-abbrev pub Spelled : (ℕ → Bool) → List ℕ → ℕ → ℕ → Type 0
-Spelled p bytes len v = (length bytes ≡ 4) × (len ≤ v) × (take len bytes ≡ digits p v)
-
-pub spelled_none : (p : ℕ → Bool) (bytes : List ℕ) → length bytes ≡ 4 → Spelled p bytes 0 0
+pub digits_zero : (p : ℕ → Bool) → [] ≡ digits p 0
 unfolding digits
-spelled_none p bytes h = (h, omega arith, refl)
+digits_zero p = refl
 
-module _ (p : ℕ → Bool) (bytes : List ℕ) (len v : ℕ) (spelled : Spelled p bytes len v) where
-  pub spelled_more : v < 4 → p v ≡ true → Spelled p (set bytes len (49 + v)) (len + 1) (v + 1)
-  unfolding digits
-  spelled_more h t = (
-    length-set bytes len (49 + v) ∙ spelled.0,
-    omega (arith, spelled.1),
-    take_more_set bytes len (49 + v) (omega (arith, spelled.0, spelled.1))
-        ∙ (λ i. spelled.2 i ++ sym (cond-true (p v) ((49 + v) ∷ []) [] t) i)
-        ∙ ap (digits p) (sym (add-one v)),
-  )
+digits_one_more : (p : ℕ → Bool) (v : ℕ) (b : Bool) → b ≡ p v → digits p v ++ cond b ((49 + v) ∷ []) [] ≡ digits p (v + 1)
+unfolding digits
+digits_one_more p v b e = (λ i. digits p v ++ cond (e i) ((49 + v) ∷ []) []) ∙ ap (digits p) (sym (add-one v))
 
-  pub spelled_same : p v ≡ false → Spelled p bytes len (v + 1)
-  unfolding digits
-  spelled_same t = (
-    spelled.0,
-    omega (arith, spelled.1),
-    spelled.2 ∙ sym (append-nil (digits p v)) ∙ ap (λ l. digits p v ++ l) (sym (cond-false (p v) ((49 + v) ∷ []) [] t))
-        ∙ ap (digits p) (sym (add-one v)),
-  )
+module _ (p : ℕ → Bool) (word : List ℕ) (v : ℕ) (so_far : word ≡ digits p v) where
+  pub spelled_short : length word ≤ v
+  spelled_short = rw (so_far, digits_long) (members_le p v)
+
+  -- v belongs to them
+  pub spelled_with : true ≡ p v → word ++ (49 + v) ∷ [] ≡ digits p (v + 1)
+  spelled_with e = ap (λ w. w ++ (49 + v) ∷ []) so_far ∙ digits_one_more p v true e
+
+  -- v does not
+  pub spelled_without : false ≡ p v → word ≡ digits p (v + 1)
+  spelled_without e = so_far ∙ sym (append-nil (digits p v)) ∙ digits_one_more p v false e

@@ -11,11 +11,11 @@ use Rattle.conductors.specs.Stands.{or_none, stands_append}
 
 -- whether a byte stands in the last digit's part
 last_other : (b d : ℕ) (p : Bool) → (b ≢ d) → stands b (cond p (d ∷ []) []) ≡ false
-last_other b d true h = or_from _ _ (ne_eqb b d h) refl
+last_other b d true h = or_from _ _ (ne_eqb d b (λ e. h (sym e))) refl
 last_other b d false h = refl
 
 last_same : (b d : ℕ) (p : Bool) → b ≡ d → stands b (cond p (d ∷ []) []) ≡ p
-last_same b d true h = ap (λ t. t || false) (eq-eqb b d h)
+last_same b d true h = ap (λ t. t || false) (eq-eqb d b (sym h))
 last_same b d false h = refl
 
 -- no other byte stands among the digits

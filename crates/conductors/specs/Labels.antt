@@ -1,7 +1,7 @@
 -- The words of sets tell them apart, and are read back.
 use Rattle.std.specs.Prelude.{◌≡◌, ℕ, ◌+◌, ◌%◌, ◌^◌, ◌<◌, ◌≤◌, Bool, true, false, cond, ◌||◌, List, length, codes, ◌==◌, ◌≢◌, nat_eq, refl}
 use Rattle.std.proofs.Common.{sym, ap, ◌∙◌, arith}
-use Rattle.std.proofs.Math.Nat.{zero-div}
+use Rattle.std.proofs.lemmas.Nat.Bits.{bit_at-zero}
 use Rattle.std.proofs.lemmas.Bool.{eqb-true, eqb-false, or_right, cond_both}
 use Rattle.std.proofs.lemmas.Bool.Decides.{nat_tests}
 use Rattle.kind.specs.Tally.{members}
@@ -33,7 +33,7 @@ read_label : (n s v : ℕ) → n ≤ 4 → v < n → read v (mask_label n s) ≡
 read_label n s v few h =
     by_word (λ w. read v w ≡ bit s v) n s
     (λ e. all_digits v ∙ sym (sym (bit_mod n s v h) ∙ ap (λ t. bit t v) (e ∙ full_mask n) ∙ bit_mask (λ u. true) n v h))
-    (λ e. no_digit v (omega arith) ∙ sym (sym (bit_mod n s v h) ∙ ap (λ t. bit t v) e ∙ ap (λ x. nat_eq (x % 2) 1) (zero-div (2 ^ v))))
+    (λ e. no_digit v (omega arith) ∙ sym (sym (bit_mod n s v h) ∙ ap (λ t. bit t v) e ∙ ap (λ x. nat_eq x 1) (bit_at-zero v)))
     (λ e. (λ i. stands_digit (bit s) n v h i || stands_other (bit s) n 97 (λ u (l : u < n) (z : 97 ≡ 49 + u). omega arith) i) ∙ or_none (bit s v))
 
 pub label_tells : (n s t : ℕ) → n ≤ 4 → mask_label n s ≡ mask_label n t → (v : ℕ) → v < n → bit s v ≡ bit t v

@@ -1,3 +1,4 @@
+pub mod Below
 pub mod Masks
 pub mod OrderKind
 pub mod Orders

@@ -1,24 +1,21 @@
 -- Sets as bits: what belongs to a set, and how many.
-use Rattle.std.specs.Prelude.{◌≡◌, ℕ, zero, suc, ◌+◌, ◌-◌, ◌*◌, ◌/◌, ◌%◌, ◌^◌, ◌<◌, ◌≤◌, Bool, true, false, cond, ◌&&◌, ◌==◌, nat_eq, refl}
-use Rattle.std.proofs.Common.{sym, ap, ◌∙◌, ⊎_elim, mod-lt, pow-suc, arith}
-use Rattle.std.proofs.Math.Nat.{mod-mod, mod-one, mul-add-mod_self_right}
+use Rattle.std.specs.Prelude.{◌≡◌, ℕ, zero, suc, ◌+◌, ◌*◌, ◌/◌, ◌%◌, ◌^◌, ◌<◌, ◌≤◌, Bool, true, false, cond, ◌&&◌, ◌==◌, nat_eq, refl}
+use Rattle.std.proofs.Common.{min, sym, ap, ◌∙◌, ⊎_elim, mod-lt, pow-suc, arith}
+use Rattle.std.proofs.Math.Nat.{mod-one}
 use Rattle.std.specs.Int.Bits.{bit_and}
 use Rattle.std.specs.Int.Count.{ones}
-use Rattle.std.proofs.lemmas.Nat.{pow_pos, mod-pow-add, field_of, shr_high, mod_low, and_shr, and_mod, ones_cat, ones-le}
+use Rattle.std.proofs.lemmas.Nat.{pow_pos, mod-pow-add, div-add-mod', shr_high, ones_cat, ones-le}
+use Rattle.std.proofs.lemmas.Nat.Bits.{bit_at_cat_low, bit_at_and, bit_at-lt}
+use Rattle.std.proofs.lemmas.Bool.Decides.{nat_tests}
 use Rattle.std.proofs.lemmas.Bool.{cases_eq, eqb-true, eq-eqb, and_parts}
 use Rattle.kind.specs.Tally.{members, Tallied}
 use Rattle.kind.proofs.Members.{exact_tally}
 use Rattle.conductors.specs.Masks.{bit, mask, mask_full, mask_inside, mask_count}
 
-lowest : (x i : ℕ) → x % 2 ^ (i + 1) % 2 ≡ x % 2
-lowest x i = ap (λ y. y % 2) (mod-pow-add x i 1) ∙ mul-add-mod_self_right _ 2 (x % 2) ∙ mod-mod x 2
-
 -- what stands above bit m does not matter below it
 pub bit_mod : (m s v : ℕ) → v < m → bit (s % 2 ^ m) v ≡ bit s v
 bit_mod m s v h =
-    let i = m - v - 1 in
-    let e : m ≡ i + 1 + v = omega arith in
-    ap (λ x. nat_eq (x % 2) 1) (ap (λ k. s % 2 ^ k / 2 ^ v) e ∙ field_of s (i + 1) v) ∙ ap (λ x. nat_eq x 1) (lowest (s / 2 ^ v) i)
+    ap (λ x. nat_eq x 1) (sym (bit_at_cat_low (s / 2 ^ m) m (s % 2 ^ m) v h) ∙ ap (λ x. x / 2 ^ v % 2) (div-add-mod' s (2 ^ m)))
 
 flag_test : (b : Bool) → (cond b 1 0 % 2 == 1) ≡ b
 flag_test true = refl
@@ -41,7 +38,7 @@ bit_mask p (suc n) v h =
     (λ (e : v ≡ n). ap (bit (c * 2 ^ n + mask p n)) e ∙ ap (λ x. nat_eq (x % 2) 1) (shr_high c n (mask p n) low) ∙ flag_test (p n) ∙ ap p (sym e))
     (λ (e : v ≡ n → ⊥).
     let under : v < n = omega arith in
-    sym (bit_mod n (c * 2 ^ n + mask p n) v under) ∙ ap (λ s. bit s v) (mod_low c n (mask p n) low) ∙ bit_mask p n v under)
+    ap (λ x. nat_eq x 1) (bit_at_cat_low c n (mask p n) v under) ∙ bit_mask p n v under)
     (cases_eq v n)
 
 pub mask_alike : (p q : ℕ → Bool) (n : ℕ) → ((v : ℕ) → v < n → p v ≡ q v) → mask p n ≡ mask q n
@@ -53,9 +50,7 @@ mask_alike p q (suc n) e =
     λ i. cond (top i) 1 0 * 2 ^ n + rest i
 
 test_flag : (x : ℕ) → x < 2 → cond (x == 1) 1 0 ≡ x
-test_flag zero h = refl
-test_flag (suc zero) h = refl
-test_flag (suc (suc x)) h = absurd (omega arith)
+test_flag x h = grind (arith, nat_tests)
 
 pub mask_bits : (s n : ℕ) → mask (bit s) n ≡ s % 2 ^ n
 unfolding mask
@@ -70,19 +65,12 @@ unfolding mask
 full_mask zero = refl
 full_mask (suc n) = omega (arith, pow-suc 2 n, full_mask n, pow_pos n)
 
-both_tests : (x y : ℕ) → x < 2 → y < 2 → (bit_and x y == 1) ≡ (x == 1 && y == 1)
-both_tests zero zero h k = refl
-both_tests zero (suc zero) h k = refl
-both_tests (suc zero) zero h k = refl
-both_tests (suc zero) (suc zero) h k = refl
-both_tests zero (suc (suc y)) h k = absurd (omega arith)
-both_tests (suc zero) (suc (suc y)) h k = absurd (omega arith)
-both_tests (suc (suc x)) y h k = absurd (omega arith)
+both_tests : (x y : ℕ) → x < 2 → y < 2 → (min x y == 1) ≡ (x == 1 && y == 1)
+both_tests x y h k = grind (arith, nat_tests)
 
 pub bit_and_lem : (s t v : ℕ) → bit (bit_and s t) v ≡ (bit s v && bit t v)
 bit_and_lem s t v =
-    ap (λ x. nat_eq x 1) (ap (λ x. x % 2) (and_shr s t v) ∙ and_mod (s / 2 ^ v) (t / 2 ^ v) 1)
-    ∙ both_tests (s / 2 ^ v % 2) (t / 2 ^ v % 2) (mod-lt _ (omega arith)) (mod-lt _ (omega arith))
+    ap (λ x. nat_eq x 1) (bit_at_and s t v) ∙ both_tests (s / 2 ^ v % 2) (t / 2 ^ v % 2) (bit_at-lt s v) (bit_at-lt t v)
 
 ones_mask : (p : ℕ → Bool) (n : ℕ) → ones (mask p n) ≡ members p n
 unfolding mask members ones

@@ -23,7 +23,7 @@ orders_kind n = record {
   count = mask_count n;
   word = order_word_lem n;
   label = mask_label n;
-  wide = 4;
+  W = 4;
   named = order_named n;
   labelled = mask_labelled n;
 }

@@ -1,6 +1,6 @@
 -- The words of orders and of sets of conductors, in which value v is written as the digit of v + 1.
-use Rattle.std.specs.Prelude.{ℕ, zero, suc, ◌+◌, ◌-◌, ◌%◌, ◌^◌, Bool, false, cond, ◌||◌, List, [], ◌∷◌, ◌++◌, map, codes, Option, ◌==◌, slice_index}
-use Rattle.std.specs.List.{range_with_len}
+use Rattle.std.specs.Prelude.{ℕ, zero, suc, ◌+◌, ◌-◌, ◌%◌, ◌^◌, Bool, cond, ◌||◌, List, [], ◌∷◌, ◌++◌, map, codes, Option, ◌==◌, slice_index}
+use Rattle.std.specs.List.{list_any, range_with_len}
 use Rattle.words.specs.Reading.{first_with}
 use Rattle.conductors.specs.Orders.{takes, numbered}
 use Rattle.conductors.specs.Masks.{bit, mask, mask_full}
@@ -26,8 +26,7 @@ mask_label n s = cond (s % 2 ^ n == mask_full n) (codes "any") (cond (s % 2 ^ n 
 
 -- whether a byte stands in a text
 abbrev pub stands : ℕ → List ℕ → Bool
-stands b [] = false
-stands b (c ∷ cs) = b == c || stands b cs
+stands b text = list_any (λ c. c == b) text
 
 -- the set that a field would label: those whose digit stands in it, or all where the `a` of `any` does
 abbrev pub mask_read : ℕ → List ℕ → ℕ

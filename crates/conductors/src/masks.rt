@@ -1,7 +1,9 @@
 // Sets of conductors as bits.
-ghost use Rattle.std.specs.Prelude.{◌≡◌, ◌+◌, ◌*◌, ◌%◌, ◌^◌, ◌<◌, ◌≤◌, if◌then◌else◌};
-ghost use Rattle.conductors.specs.Masks.{bit, mask_full, mask_shift, mask_fixed, mask_inside, mask_count};
+ghost use Rattle.std.specs.Prelude.{◌≡◌, ℕ, Bool, ◌%◌, ◌^◌, ◌<◌};
+ghost use Rattle.conductors.specs.Below.{TakesBelow, GivesBelow};
+ghost use Rattle.conductors.specs.Masks.{bit, mask, mask_full, mask_shift, mask_fixed, mask_inside, mask_count};
 
+use crate::count::Count;
 use crate::orders::{place, source};
 
 pub(crate) fn holds(s: u8, v: u8) -> bool
@@ -11,64 +13,59 @@ pub(crate) fn holds(s: u8, v: u8) -> bool
     (s >> v) % 2 == 1
 }
 
-// The set s of values below v, with v itself where it belongs.
-pub(crate) fn extended(s: u8, v: u8, belongs: bool) -> u8
-    requires { (v < 4) × (s < 2 ^ v) }
-    ensures { result ≡ (if belongs then 1 else 0) * 2 ^ v + s }
-{
-    if belongs { (1 << v) + s } else { s }
-}
-
-// Every value below n.
-pub(crate) fn everything(n: u8) -> u8
-    requires { n ≤ 4 }
-    ensures { result ≡ mask_full n }
-{
-    (1 << n) - 1
-}
-
-// The values of s that are below n.
-pub(crate) fn members(n: u8, s: u8) -> u8
-    requires { n ≤ 4 }
-    ensures { result ≡ s % 2 ^ n }
-{
-    s & everything(n)
-}
-
-// The values to which order g takes those of s.
-pub(crate) fn shifted(n: u8, g: u8, s: u8) -> u8
-    requires { n ≤ 4 }
-    ensures { result ≡ mask_shift n g s }
-{
-    let mut t = 0;
-    for v in 0..n {
-        t = extended(t, v, holds(s, source(n, g, v)));
+impl Count {
+    // Every value below the number.
+    pub(crate) fn everything(self) -> u8
+        ensures { result ≡ mask_full self.number }
+    {
+        (1 << self.number) - 1
     }
-    t
-}
 
-// The values that order g takes to themselves.
-pub(crate) fn unmoved(n: u8, g: u8) -> u8
-    requires { n ≤ 4 }
-    ensures { result ≡ mask_fixed n g }
-{
-    let mut t = 0;
-    for v in 0..n {
-        t = extended(t, v, place(n, g, v) == v);
+    // The values of s that are below the number.
+    pub(crate) fn members(self, s: u8) -> u8
+        ensures { result ≡ s % 2 ^ self.number }
+    {
+        s & self.everything()
     }
-    t
-}
 
-pub(crate) fn includes(n: u8, s: u8, t: u8) -> bool
-    requires { n ≤ 4 }
-    ensures { result ≡ mask_inside n s t }
-{
-    members(n, s & t) == members(n, s)
-}
+    // The values v below the number for which belongs(v).
+    pub(crate) fn set_of<F: Fn(u8) -> bool>(self, belongs: F) -> u8
+        requires { TakesBelow (F.pre belongs) self.number }
+        ensures { (p : ℕ → Bool) → GivesBelow (F.post belongs) p self.number → result ≡ mask p self.number }
+    {
+        let mut s = 0;
+        for v in 0..self.number {
+            if belongs(v) {
+                s |= 1 << v;
+            }
+        }
+        s
+    }
 
-pub(crate) fn size(n: u8, s: u8) -> u16
-    requires { n ≤ 4 }
-    ensures { result ≡ mask_count n s }
-{
-    members(n, s).count_ones() as u16
+    // The values to which order g takes those of s.
+    pub(crate) fn shifted(self, g: u8, s: u8) -> u8
+        ensures { result ≡ mask_shift self.number g s }
+    {
+        self.set_of(|v| holds(s, source(self.number, g, v)))
+    }
+
+    // The values that order g takes to themselves.
+    pub(crate) fn unmoved(self, g: u8) -> u8
+        ensures { result ≡ mask_fixed self.number g }
+    {
+        self.set_of(|v| place(self.number, g, v) == v)
+    }
+
+    pub(crate) fn includes(self, s: u8, t: u8) -> bool
+        ensures { result ≡ mask_inside self.number s t }
+    {
+        self.members(s & t) == self.members(s)
+    }
+
+    pub(crate) fn size(self, s: u8) -> u16
+        ensures { result ≡ mask_count self.number s }
+    {
+        // At most 4: `u16::try_from` would need an error that cannot come
+        self.members(s).count_ones() as u16
+    }
 }

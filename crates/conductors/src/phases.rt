@@ -6,15 +6,13 @@ ghost use Rattle.conductors.specs.OrderWords.{order_word_lem, order_named, mask_
 ghost use Rattle.conductors.specs.OrderLaws.{takes_below, takes_unit, brings_takes, takes_brings};
 ghost use Rattle.conductors.specs.OrderNumbers.{comp_takes, inv_takes};
 ghost use Rattle.std.proofs.Common.{◌∙◌, ap, sym, arith, rules};
-ghost use Rattle.std.specs.Prelude.{true, [], ◌∷◌};
+ghost use Rattle.std.specs.Prelude.{◌≡◌, true, [], ◌∷◌};
 ghost use Rattle.conductors.specs.MaskLaws.{bit_mask, full_mask, bit_and_lem, inside_each, each_inside, count_tallies};
 ghost use Rattle.conductors.specs.OrderNames.{order_word_long, order_word_plain, order_word_tells, order_word_told, order_word_read};
 ghost use Rattle.conductors.specs.Labels.{label_long, label_plain, label_tells, label_told, label_read};
 ghost use Rattle.words.proofs.Reading.{first_with_word, first_with_itself};
 
-use crate::count::Conductors;
-use crate::masks::{everything, includes, shifted, size, unmoved};
-use crate::spelling::{mask_word, order_word, read_mask, read_order};
+use crate::count::{Conductors, Count};
 use crate::three::Three;
 use kind::{Kind, WordFault};
 use std::marker::PhantomData;
@@ -32,12 +30,23 @@ pub struct Orders<C> {
 
 pub type Phases = Orders<Three>;
 
+impl<C: Conductors> Orders<C> {
+    fn count() -> Count
+        ensures { result.number ≡ C.Conductors.many }
+    {
+        Count::new(C::number())
+    }
+}
+
 impl<C: Conductors> Kind for Orders<C> {
+    // Plain numbers: each stands for an order, and for a set, so that a type round them would keep no fact.
     type Relation = u8;
 
     type Set = u8;
 
     const W: usize = WIDE;
+
+    ghost W = { 4 };
 
     ghost span = { C.Conductors.many };
 
@@ -66,8 +75,6 @@ impl<C: Conductors> Kind for Orders<C> {
     ghost word = { order_word_lem C.Conductors.many };
 
     ghost label = { mask_label C.Conductors.many };
-
-    ghost wide = { 4 };
 
     ghost named = { order_named C.Conductors.many };
 
@@ -145,10 +152,6 @@ impl<C: Conductors> Kind for Orders<C> {
         let n = C.Conductors.many in
         first_with_itself (mask_label n) _ (mask_label n s) (label_read n s C.Conductors.few) };
 
-    fn width() -> usize {
-        WIDE
-    }
-
     fn identity() -> u8 {
         IN_PLACE
     }
@@ -162,7 +165,7 @@ impl<C: Conductors> Kind for Orders<C> {
     }
 
     fn all() -> u8 {
-        everything(C::number())
+        Self::count().everything()
     }
 
     fn common(s: u8, t: u8) -> u8 {
@@ -170,34 +173,34 @@ impl<C: Conductors> Kind for Orders<C> {
     }
 
     fn moved(g: u8, s: u8) -> u8 {
-        shifted(C::number(), g, s)
+        Self::count().shifted(g, s)
     }
 
     fn still(g: u8) -> u8 {
-        unmoved(C::number(), g)
+        Self::count().unmoved(g)
     }
 
     fn within(s: u8, t: u8) -> bool {
-        includes(C::number(), s, t)
+        Self::count().includes(s, t)
     }
 
     fn tally(s: u8) -> u16 {
-        size(C::number(), s)
+        Self::count().size(s)
     }
 
     fn read_relation(field: &[u8]) -> Result<u8, WordFault> {
-        read_order(C::number(), field)
+        Self::count().read_order(field)
     }
 
     fn read_set(field: &[u8]) -> Result<u8, WordFault> {
-        read_mask(C::number(), field)
+        Self::count().read_mask(field)
     }
 
     fn relation_word(g: u8) -> Word {
-        order_word(C::number(), g)
+        Self::count().order_word(g)
     }
 
     fn set_word(s: u8) -> Word {
-        mask_word(C::number(), s)
+        Self::count().mask_word(s)
     }
 }

@@ -1,123 +1,103 @@
 // The words of orders and of sets of conductors.
-ghost use Rattle.std.specs.Prelude.{◌≡◌, ◌≤◌, slice_index};
+ghost use Rattle.std.specs.Prelude.{◌≡◌, ◌+◌, ◌<◌, ◌++◌, [], ◌∷◌, length, if◌then◌else◌};
 ghost use Rattle.std.specs.Option.{ok_or};
-ghost use Rattle.words.specs.Spelt.{spelt};
-ghost use Rattle.kind.specs.declared.fault.WordFault.TheVariants.{NotAWord};
-ghost use Rattle.conductors.specs.OrderWords.{order_word_lem, order_read, order_named, digits, stands, mask_label, mask_read, mask_labelled};
+ghost use Rattle.std.specs.Str.{bytes_eq};
+ghost use Rattle.conductors.specs.OrderWords.{order_word_lem, order_read, order_named, digits, mask_label, mask_read, mask_labelled};
 ghost use Rattle.conductors.specs.Masks.{bit};
 
-use crate::masks::{everything, extended, holds, members};
-use crate::orders::{number_of, place};
+use crate::count::Count;
+use crate::masks::holds;
+use crate::orders::place;
 use kind::WordFault;
-use words::{Word, same_bytes};
+use words::Word;
 
-// The byte at i, or 0 past the end.
-fn byte_at(text: &[u8], i: usize) -> u8
-    ensures { result ≡ slice_index text.now i }
+// Writes v, as the digit of v + 1.
+fn write_digit(word: &mut Word, v: u8)
+    requires digit { v < 9 }
+    requires room { length word.old < 32 }
+    ensures { word.new ≡ word.old ++ (49 + v) ∷ [] }
 {
-    if i < text.len() { text[i] } else { 0 }
+    word.append(&[b'1' + v]);
 }
 
-// The digits of where 1, 2, .. go.
-pub(crate) fn order_word(n: u8, g: u8) -> Word
-    requires { n ≤ 4 }
-    ensures { spelt result ≡ order_word_lem n g }
+// The value, if its word stands in the field.
+fn if_word(field: &[u8], value: u8, word: Word) -> Result<u8, WordFault>
+    ensures { result ≡ ok_or (if bytes_eq field.now word then Some value else None) WordFault.NotAWord }
 {
-    let mut bytes = [0; 4];
-    for v in 0..n {
-        bytes[v as usize] = b'1' + place(n, g, v);
-    }
-    Word::of(&bytes[0..n as usize])
-}
-
-// The order whose digits stand in the field, if those are the digits of an order.
-fn order_in(n: u8, field: &[u8]) -> u8
-    requires { n ≤ 4 }
-    ensures { result ≡ order_read n field.now }
-{
-    let mut places = [0; 4];
-    for v in 0..n {
-        places[v as usize] = byte_at(field, v as usize).saturating_sub(b'1');
-    }
-    number_of(n, places)
-}
-
-pub(crate) fn read_order(n: u8, field: &[u8]) -> Result<u8, WordFault>
-    requires { n ≤ 4 }
-    ensures { result ≡ ok_or (order_named n field.now) NotAWord }
-{
-    let g = order_in(n, field);
-    let word = order_word(n, g);
-    if same_bytes(field, word.as_slice()) {
-        Ok(g)
+    if field == word.as_slice() {
+        Ok(value)
     } else {
         Err(WordFault::NotAWord)
     }
 }
 
-// The digits of the members of s, rising.
-fn digits_word(n: u8, s: u8) -> Word
-    requires { n ≤ 4 }
-    ensures { spelt result ≡ digits (bit s) n }
-{
-    let mut bytes = [0; 4];
-    let mut len = 0;
-    for v in 0..n {
-        if holds(s, v) {
-            bytes[len] = b'1' + v;
-            len += 1;
+impl Count {
+    // The digits of where 1, 2, .. go.
+    pub(crate) fn order_word(self, g: u8) -> Word
+        ensures { result ≡ order_word_lem self.number g }
+    {
+        let mut word = Word::of(b"");
+        for v in 0..self.number {
+            write_digit(&mut word, place(self.number, g, v));
+        }
+        word
+    }
+
+    // The order whose digits stand in the field, if those are the digits of an order.
+    fn order_in(self, field: &[u8]) -> u8
+        ensures { result ≡ order_read self.number field.now }
+    {
+        self.order_of(|v| {
+            let digit = field.get(usize::from(v)).copied().unwrap_or(0);
+            digit.saturating_sub(b'1')
+        })
+    }
+
+    pub(crate) fn read_order(self, field: &[u8]) -> Result<u8, WordFault>
+        ensures { result ≡ ok_or (order_named self.number field.now) WordFault.NotAWord }
+    {
+        let g = self.order_in(field);
+        if_word(field, g, self.order_word(g))
+    }
+
+    // The digits of the members of s, rising.
+    fn digits_word(self, s: u8) -> Word
+        ensures { result ≡ digits (bit s) self.number }
+    {
+        let mut word = Word::of(b"");
+        for v in 0..self.number {
+            if holds(s, v) {
+                write_digit(&mut word, v);
+            }
+        }
+        word
+    }
+
+    pub(crate) fn mask_word(self, s: u8) -> Word
+        ensures { result ≡ mask_label self.number s }
+    {
+        let low = self.members(s);
+        if low == self.everything() {
+            Word::of(b"any")
+        } else if low == 0 {
+            Word::of(b"none")
+        } else {
+            self.digits_word(s)
         }
     }
-    Word::of(&bytes[0..len])
-}
 
-pub(crate) fn mask_word(n: u8, s: u8) -> Word
-    requires { n ≤ 4 }
-    ensures { spelt result ≡ mask_label n s }
-{
-    let low = members(n, s);
-    if low == everything(n) {
-        Word::of(b"any")
-    } else if low == 0 {
-        Word::of(b"none")
-    } else {
-        digits_word(n, s)
+    // The set whose digits stand in the field, or every value where the field has the `a` of `any`.
+    fn mask_in(self, field: &[u8]) -> u8
+        ensures { result ≡ mask_read self.number field.now }
+    {
+        let any = field.contains(&b'a');
+        self.set_of(|v| field.contains(&(b'1' + v)) || any)
     }
-}
 
-fn has_byte(text: &[u8], byte: u8) -> bool
-    ensures { result ≡ stands byte text.now }
-{
-    for b in text {
-        if *b == byte {
-            return true;
-        }
-    }
-    false
-}
-
-// The set whose digits stand in the field, or every value where the field has the `a` of `any`.
-fn mask_in(n: u8, field: &[u8]) -> u8
-    requires { n ≤ 4 }
-    ensures { result ≡ mask_read n field.now }
-{
-    let any = has_byte(field, b'a');
-    let mut s = 0;
-    for v in 0..n {
-        s = extended(s, v, has_byte(field, b'1' + v) | any);
-    }
-    s
-}
-
-pub(crate) fn read_mask(n: u8, field: &[u8]) -> Result<u8, WordFault>
-    requires { n ≤ 4 }
-    ensures { result ≡ ok_or (mask_labelled n field.now) NotAWord }
-{
-    let s = mask_in(n, field);
-    let word = mask_word(n, s);
-    if same_bytes(field, word.as_slice()) {
-        Ok(s)
-    } else {
-        Err(WordFault::NotAWord)
+    pub(crate) fn read_mask(self, field: &[u8]) -> Result<u8, WordFault>
+        ensures { result ≡ ok_or (mask_labelled self.number field.now) WordFault.NotAWord }
+    {
+        let s = self.mask_in(field);
+        if_word(field, s, self.mask_word(s))
     }
 }

@@ -4,7 +4,7 @@ use Rattle.std.proofs.Common.{ap, sym, ◌∙◌, ⊎_elim, arith, mul_assoc, ad
 use Rattle.std.proofs.lemmas.Bool.{cases_eq, eq-eqb, ne_eqb}
 use Rattle.picks.specs.Picks.{pick_has}
 use Rattle.picks.proofs.PickLaws.{same_test}
-use Rattle.drums.specs.Drums.{drum_mult, drum_add, drum_number, moved_to, drum_act, inverse251, drum_comp, drum_inv, drum_fixed}
+use Rattle.drums.specs.Drums.{drum_mult, drum_add, drum_number, moved_to, drum_act, inverse251, drum_comp, drum_inv, drum_fixed, InRange}
 use Rattle.drums.specs.Modulo.{Like, reduced, sums, products, undo_left, undo_right, product_some, inverse_some, inverse_low}
 
 pub mult_some : (g : ℕ) → 1 ≤ drum_mult g
@@ -23,14 +23,34 @@ number_mult a b some low small = omega arith
 pub number_add : (a b : ℕ) → b ≤ 250 → drum_add (drum_number a b) ≡ b
 number_add a b small = omega arith
 
-number_acts : (a b v : ℕ) → 1 ≤ a → a ≤ 250 → b ≤ 250 → drum_act (drum_number a b) v ≡ moved_to a b v
-number_acts a b v some low small =
-    let p = number_mult a b some low small in
-    let q = number_add a b small in
-    ap (λ x. (x * v + drum_add (drum_number a b)) % 251) p ∙ ap (λ y. (a * v + y) % 251) q
+-- the number tells both parts
+pub number_parts : (a b : ℕ) → InRange a b → ◌≡◌ {A = ℕ × ℕ} (drum_mult (drum_number a b), drum_add (drum_number a b)) (a, b)
+number_parts a b range =
+    rw (number_mult a b range.some range.low range.small, number_add a b range.small) refl
+
+number_acts : (a b v : ℕ) → InRange a b → drum_act (drum_number a b) v ≡ moved_to a b v
+number_acts a b v range = ap (λ parts. moved_to parts.0 parts.1 v) (number_parts a b range)
 
 residue_low : (x : ℕ) → x % 251 ≤ 250
 residue_low x = omega arith
+
+-- what a number stands for is in range, and so are compositions and inverses
+in_range : (g : ℕ) → InRange (drum_mult g) (drum_add g)
+in_range g = record { some = mult_some g; low = mult_low g; small = add_low g }
+
+comp_in_range : (a b c d : ℕ) → InRange a b → InRange c d → InRange (a * c % 251) ((a * d + b) % 251)
+comp_in_range a b c d g h = record {
+  some = product_some a c g.some g.low h.some h.low;
+  low = residue_low _;
+  small = residue_low _;
+}
+
+inv_in_range : (a b : ℕ) → InRange a b → InRange (inverse251 a) (inverse251 a * (251 - b) % 251)
+inv_in_range a b g = record {
+  some = inverse_some a g.some g.low;
+  low = inverse_low a;
+  small = residue_low _;
+}
 
 pub drum_closed : (g v : ℕ) → drum_act g v < 251
 drum_closed g v = mod-lt _ (lit< tt)
@@ -42,7 +62,7 @@ drum_comp_acts g h v =
     let c = drum_mult h in
     let d = drum_add h in
     let left : drum_act (drum_comp g h) v ≡ (a * c * v + (a * d + b)) % 251 =
-    number_acts (a * c % 251) ((a * d + b) % 251) v (product_some a c (mult_some g) (mult_low g) (mult_some h) (mult_low h)) (residue_low (a * c)) (residue_low (a * d + b))
+    number_acts (a * c % 251) ((a * d + b) % 251) v (comp_in_range a b c d (in_range g) (in_range h))
     ∙ sums 251 _ _ _ _ (products 251 _ v _ v (reduced 251 (a * c)) refl) (reduced 251 (a * d + b)) in
     let right : drum_act g (drum_act h v) ≡ (a * (c * v + d) + b) % 251 =
     sums 251 _ b _ b (products 251 a _ a _ refl (reduced 251 (c * v + d))) refl in
@@ -57,7 +77,7 @@ module _ (g : ℕ) where
       let a = drum_mult g in
       let i = inverse251 a in
       let less = 251 - drum_add g in
-      number_acts i (i * less % 251) v (inverse_some a (mult_some g) (mult_low g)) (inverse_low a) (residue_low (i * less))
+      number_acts i (i * less % 251) v (inv_in_range a (drum_add g) (in_range g))
       ∙ sums 251 (i * v) _ (i * v) _ refl (reduced 251 (i * less)) ∙ ap (λ x. x % 251) (sym (mul-add i v less))
 
   pub drum_inv_left : (v : ℕ) → v < 251 → drum_act (drum_inv g) (drum_act g v) ≡ v

@@ -10,10 +10,10 @@ use Rattle.words.proofs.Numerals.{own, named_number, decimal_named}
 use Rattle.words.proofs.Reading.{unread}
 use Rattle.words.proofs.Spelling.{plain_append, plain_decimal, front_decimal}
 use Rattle.picks.proofs.PickWords.{Spelling}
-use Rattle.drums.specs.Drums.{drum_mult, drum_add, drum_number, moved_to, drum_act}
+use Rattle.drums.specs.Drums.{InRange, drum_mult, drum_add, drum_number, moved_to, drum_act}
 use Rattle.drums.specs.DrumWords.{with_bar, drum_word, both_named, two_named, drum_named, low_number, value_named}
 use Rattle.drums.specs.Bars.{one_part, first_part, with_bar_all, parts_whole}
-use Rattle.drums.specs.DrumLaws.{mult_some, mult_low, add_low, number_mult, number_add}
+use Rattle.drums.specs.DrumLaws.{mult_some, mult_low, add_low, number_parts}
 
 -- what a test lets through
 let_through : (t : Bool) (n g : ℕ) → cond t (Some n) None ≡ Some g → (t ≡ true) × (n ≡ g)
@@ -48,12 +48,12 @@ module _ (a b : ℕ) (low : a ≤ 250) (small : b ≤ 250) where
   with_bar_length : length (with_bar a b) ≤ 7
   with_bar_length = omega (arith, length-append (decimal a) (124 ∷ decimal b), short a low, short b small)
 
-  pub with_bar_written : (first front second all : List ℕ) → first ≡ decimal a → front ≡ take 32 (first ++ (124 ∷ [])) → second ≡ decimal b → all ≡ take 32 (front ++ second) → all ≡ with_bar a b
-  with_bar_written first front second all p q r s =
+  -- there is room for it, as it is put together
+  pub with_bar_written : take 32 (take 32 (decimal a ++ (124 ∷ [])) ++ decimal b) ≡ with_bar a b
+  with_bar_written =
       let room = length-append (decimal a) (124 ∷ []) in
-      let cut : front ≡ decimal a ++ (124 ∷ []) = q ∙ ap (λ l. take 32 (l ++ (124 ∷ []))) p ∙ take_all 32 _ (omega (arith, short a low)) in
-      let text : front ++ second ≡ with_bar a b = ap (λ l. l ++ second) cut ∙ ap (λ l. (decimal a ++ (124 ∷ [])) ++ l) r ∙ append_assoc (decimal a) (124 ∷ []) (decimal b) in
-      s ∙ ap (take 32) text ∙ take_all 32 (with_bar a b) (omega (arith, with_bar_length))
+      ap (λ l. take 32 (l ++ decimal b)) (take_all 32 _ (omega (arith, short a low))) ∙ ap (take 32) (append_assoc (decimal a) (124 ∷ []) (decimal b))
+      ∙ take_all 32 (with_bar a b) (omega (arith, with_bar_length))
 
   with_bar_parts : parts 124 (with_bar a b) ≡ decimal a ∷ decimal b ∷ []
   with_bar_parts =
@@ -63,6 +63,10 @@ module _ (a b : ℕ) (low : a ≤ 250) (small : b ≤ 250) where
   with_bar_named some =
       ap two_named with_bar_parts ∙ ap (λ x. both_named x (number_named (decimal b))) (decimal_named a (omega arith)) ∙ ap (both_named (Some a)) (decimal_named b (omega arith))
       ∙ cond-true _ _ _ (and_from _ _ (le-leb 1 a some) (and_from _ _ (le-leb a 250 low) (le-leb b 250 small)))
+
+-- the number of a|b has the word of a|b
+pub number_word : (a b : ℕ) → InRange a b → drum_word (drum_number a b) ≡ with_bar a b
+number_word a b range = ap (λ parts. with_bar parts.0 parts.1) (number_parts a b range)
 
 pub drum_length : (g : ℕ) → (0 < length (drum_word g)) × (length (drum_word g) ≤ 7)
 drum_length g =
@@ -106,9 +110,8 @@ drum_named_word field g e = two (parts 124 field) (parts_whole field) e
         let r = let_through _ (drum_number a b) g e in
         let some = and_parts _ _ r.0 in
         let low = and_parts _ _ some.1 in
-        let small = leb-true b 250 low.1 in
-        ap drum_word (sym r.1) ∙ ap (λ x. with_bar x (drum_add (drum_number a b))) (number_mult a b (leb-true 1 a some.0) (leb-true a 250 low.0) small)
-        ∙ ap (with_bar a) (number_add a b small) ∙ ap (λ l. l ++ (124 ∷ decimal b)) (named_number p a m).0 ∙ ap (λ l. p ++ (124 ∷ l)) (named_number q b n).0
+        let range : InRange a b = record { some = leb-true 1 a some.0; low = leb-true a 250 low.0; small = leb-true b 250 low.1 } in
+        ap drum_word (sym r.1) ∙ number_word a b range ∙ ap (λ l. l ++ (124 ∷ decimal b)) (named_number p a m).0 ∙ ap (λ l. p ++ (124 ∷ l)) (named_number q b n).0
 
     two : (ps : List (List ℕ)) → with_bar_all ps ≡ 124 ∷ field → two_named ps ≡ Some g → drum_word g ≡ field
     two [] w e = unread e

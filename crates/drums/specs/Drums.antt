@@ -1,8 +1,14 @@
 -- Drum relations a|b: v goes to a × v + b modulo 251, where a is not 0. Each goes by a number.
-use Rattle.std.specs.Prelude.{ℕ, ◌+◌, ◌-◌, ◌*◌, ◌/◌, ◌%◌, ◌^◌, cond, ◌==◌}
+use Rattle.std.specs.Prelude.{ℕ, ◌+◌, ◌-◌, ◌*◌, ◌/◌, ◌%◌, ◌^◌, ◌≤◌, cond, ◌==◌}
 use Rattle.picks.specs.Picks.{pick_shift}
 use Rattle.picks.specs.declared.Pick.{Pick}
 use Rattle.picks.specs.declared.Pick.TheVariants.{Nothing, One, Any}
+
+-- a|b with both in range
+pub record InRange (a b : ℕ) : Type 0 where
+  pub some : 1 ≤ a
+  pub low : a ≤ 250
+  pub small : b ≤ 250
 
 -- the relation that a number stands for
 abbrev pub drum_mult : ℕ → ℕ

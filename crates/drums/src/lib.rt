@@ -12,6 +12,7 @@ ghost use Rattle.picks.proofs.PickLaws.{pick_shift_has, pick_all_inside, pick_co
 ghost use Rattle.drums.specs.DrumWordsLemmas.{drum_length, values, drum_plain, drum_word_tells, drum_word_told, drum_named_word, drum_word_named};
 ghost use Rattle.picks.proofs.PickWords.{pick_label_length, pick_label_plain, pick_label_tells, pick_label_told, pick_labelled_label, pick_label_labelled};
 
+use drum::{LAST, SPAN};
 use kind::{Kind, WordFault};
 use picks::Pick;
 use text::{read_drum, read_value};
@@ -23,21 +24,16 @@ mod text;
 
 pub use drum::Drum;
 
-// The greatest value.
-const LAST: u32 = 250;
-
-// The set of every value.
-const EVERY: Pick = Pick::Any;
-
 pub struct Drums;
 
-// A relation is a number, which stands for the drum relation made from it.
 impl Kind for Drums {
-    type Relation = u32;
+    type Relation = Drum;
 
     type Set = Pick;
 
     const W: usize = 7;
+
+    ghost W = { 7 };
 
     ghost span = { 251 };
 
@@ -66,8 +62,6 @@ impl Kind for Drums {
     ghost word = { drum_word };
 
     ghost label = { pick_label 251 decimal };
-
-    ghost wide = { 7 };
 
     ghost named = { drum_named };
 
@@ -125,39 +119,36 @@ impl Kind for Drums {
 
     ghost label_labelled = { pick_label_labelled values };
 
-    fn width() -> usize {
-        Self::W
+    fn identity() -> Drum {
+        Drum {
+            multiplier: 1,
+            addend: 0,
+        }
     }
 
-    fn identity() -> u32 {
-        0
+    fn after(g: Drum, h: Drum) -> Drum {
+        g.after(h)
     }
 
-    fn after(g: u32, h: u32) -> u32 {
-        Drum::of(g).after(Drum::of(h)).number()
+    fn inverse(g: Drum) -> Drum {
+        g.inverse()
     }
 
-    fn inverse(g: u32) -> u32 {
-        Drum::of(g).inverse().number()
-    }
-
+    // The trait has relations and sets together, so what temps share with drums is a call of `Pick` in each.
     fn all() -> Pick {
-        EVERY
+        Pick::Any
     }
 
     fn common(s: Pick, t: Pick) -> Pick {
         s.common(t, LAST)
     }
 
-    fn moved(g: u32, s: Pick) -> Pick {
-        match s {
-            Pick::One(v) => Pick::One(Drum::of(g).value_at(v)),
-            _ => s,
-        }
+    fn moved(g: Drum, s: Pick) -> Pick {
+        s.map(|v| g.value_at(v))
     }
 
-    fn still(g: u32) -> Pick {
-        Drum::of(g).still()
+    fn still(g: Drum) -> Pick {
+        g.still()
     }
 
     fn within(s: Pick, t: Pick) -> bool {
@@ -168,7 +159,7 @@ impl Kind for Drums {
         s.tally(LAST)
     }
 
-    fn read_relation(field: &[u8]) -> Result<u32, WordFault> {
+    fn read_relation(field: &[u8]) -> Result<Drum, WordFault> {
         read_drum(field).ok_or(WordFault::NotAWord)
     }
 
@@ -176,15 +167,11 @@ impl Kind for Drums {
         Pick::read(field, read_value(field)).ok_or(WordFault::NotAWord)
     }
 
-    fn relation_word(g: u32) -> Word {
-        Drum::of(g).word()
+    fn relation_word(g: Drum) -> Word {
+        g.word()
     }
 
     fn set_word(s: Pick) -> Word {
-        match s {
-            Pick::Nothing => Word::of(b"none"),
-            Pick::One(v) => Word::decimal(v % 251),
-            Pick::Any => Word::of(b"any"),
-        }
+        s.word(|v| Word::decimal(v % SPAN))
     }
 }

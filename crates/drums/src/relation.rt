@@ -1,8 +1,8 @@
 // What drum relations do, and the numbers that they go by.
-ghost use Rattle.std.specs.Prelude.{◌≡◌, ◌+◌, ◌-◌, ◌*◌, ◌%◌, ◌≤◌};
-ghost use Rattle.drums.specs.Drums.{drum_mult, drum_add, drum_number, moved_to, inverse251, still_set};
+ghost use Rattle.std.specs.Prelude.{◌≡◌, ◌*◌, ◌%◌, ◌≤◌};
+ghost use Rattle.drums.specs.Drums.{drum_mult, drum_add, drum_number, drum_act, drum_comp, drum_inv, drum_fixed, inverse251};
 
-use crate::drum::Drum;
+use crate::drum::{Drum, LAST, SPAN};
 use picks::Pick;
 
 // The fourth power of x modulo 251.
@@ -10,8 +10,8 @@ fn fourth(x: u32) -> u32
     requires { x ≤ 250 }
     ensures { result ≡ (x * x % 251) * (x * x % 251) % 251 }
 {
-    let square = x * x % 251;
-    square * square % 251
+    let square = x * x % SPAN;
+    square * square % SPAN
 }
 
 // The inverse of a modulo 251: since 251 is prime, it is a to the power 249.
@@ -21,68 +21,66 @@ fn reciprocal(a: u32) -> u32
     ensures some { 1 ≤ result }
     ensures low { result ≤ 250 }
 {
-    let square = a * a % 251;
-    let cube = square * a % 251;
-    let to_15 = fourth(cube) * cube % 251;
-    let to_62 = fourth(to_15) * square % 251;
-    fourth(to_62) * a % 251
+    let square = a * a % SPAN;
+    let cube = square * a % SPAN;
+    let to_15 = fourth(cube) * cube % SPAN;
+    let to_62 = fourth(to_15) * square % SPAN;
+    fourth(to_62) * a % SPAN
 }
 
 impl Drum {
-    // Each number stands for one relation.
+    // Each number stands for one relation. `of` and `number` say more than `From` would.
     pub fn of(n: u32) -> Drum
-        ensures { (result.multiplier ≡ drum_mult n) × (result.addend ≡ drum_add n) }
+        ensures { result ≡ drum_number (drum_mult n) (drum_add n) }
     {
         Drum {
-            multiplier: n / 251 % 250 + 1,
-            addend: n % 251,
+            multiplier: n / SPAN % LAST + 1,
+            addend: n % SPAN,
         }
     }
 
     // The least number that stands for the relation.
     pub fn number(self) -> u32
-        ensures { result ≡ drum_number self.multiplier self.addend }
+        ensures { result ≡ self }
     {
-        (self.multiplier - 1) * 251 + self.addend
+        (self.multiplier - 1) * SPAN + self.addend
     }
 
     // This relation after the other, which acts first.
     pub fn after(self, other: Drum) -> Drum
-        ensures { (result.multiplier ≡ self.multiplier * other.multiplier % 251) × (result.addend ≡ (self.multiplier * other.addend + self.addend) % 251) }
+        ensures { result ≡ drum_comp self other }
     {
         Drum {
-            multiplier: self.multiplier * other.multiplier % 251,
-            addend: (self.multiplier * other.addend + self.addend) % 251,
+            multiplier: self.multiplier * other.multiplier % SPAN,
+            addend: (self.multiplier * other.addend + self.addend) % SPAN,
         }
     }
 
     pub fn inverse(self) -> Drum
-        ensures { (result.multiplier ≡ inverse251 self.multiplier) × (result.addend ≡ inverse251 self.multiplier * (251 - self.addend) % 251) }
+        ensures { result ≡ drum_inv self }
     {
         let multiplier = reciprocal(self.multiplier);
         Drum {
             multiplier,
-            addend: multiplier * (251 - self.addend) % 251,
+            addend: multiplier * (SPAN - self.addend) % SPAN,
         }
     }
 
     // Where the relation takes v.
     pub fn value_at(self, v: u32) -> u32
-        ensures { result ≡ moved_to self.multiplier self.addend (v % 251) }
+        ensures { result ≡ drum_act self (v % 251) }
     {
-        (self.multiplier * (v % 251) + self.addend) % 251
+        (self.multiplier * (v % SPAN) + self.addend) % SPAN
     }
 
     // The values that the relation takes to themselves.
     pub fn still(self) -> Pick
-        ensures { result ≡ still_set self.multiplier self.addend }
+        ensures { result ≡ drum_fixed self }
     {
-        if self.multiplier > 1 {
-            Pick::One(reciprocal(252 - self.multiplier) * self.addend % 251)
-        } else if self.addend == 0 {
-            Pick::Any
-        } else {
-            Pick::Nothing
+        match (self.multiplier, self.addend) {
+            (1, 0) => Pick::Any,
+            (1, _) => Pick::Nothing,
+            (a, b) => Pick::One(reciprocal(SPAN + 1 - a) * b % SPAN),
         }
     }
 }

@@ -1,15 +1,14 @@
 // How drums are written and read.
 ghost use Rattle.std.specs.Prelude.{◌≡◌};
 ghost use Rattle.words.specs.Numbers.{number_named};
-ghost use Rattle.words.specs.Spelt.{spelt};
-ghost use Rattle.drums.specs.DrumWords.{with_bar, both_named, drum_named, value_named};
+ghost use Rattle.drums.specs.DrumWords.{drum_word, both_named, drum_named, value_named};
 
-use crate::drum::Drum;
+use crate::drum::{Drum, LAST};
 use words::{Word, cut, read_number};
 
 impl Drum {
     pub fn word(self) -> Word
-        ensures { spelt result ≡ with_bar self.multiplier self.addend }
+        ensures { result ≡ drum_word self }
     {
         let mut word = Word::decimal(self.multiplier);
         word.append(b"|");
@@ -18,44 +17,29 @@ impl Drum {
     }
 }
 
-// The number of the relation with these two parts.
-fn read_parts(first: &[u8], second: &[u8]) -> Option<u32>
-    ensures { result ≡ both_named (number_named first.now) (number_named second.now) }
-{
-    let Some(multiplier) = read_number(first) else {
-        return None;
-    };
-    let Some(addend) = read_number(second) else {
-        return None;
-    };
-    if multiplier >= 1 && multiplier <= 250 && addend <= 250 {
-        Some(Drum { multiplier, addend }.number())
-    } else {
-        None
-    }
-}
-
-// The number of the relation that a field names.
-pub(crate) fn read_drum(field: &[u8]) -> Option<u32>
-    ensures { result ≡ drum_named field.now }
-{
-    let (first, rest) = cut(field, b'|');
-    let Some(rest) = rest else {
-        return None;
-    };
-    let (second, more) = cut(rest, b'|');
-    if more.is_some() {
-        return None;
-    }
-    read_parts(first, second)
-}
-
 // The value that a field names.
 pub(crate) fn read_value(field: &[u8]) -> Option<u32>
     ensures { result ≡ value_named field.now }
 {
-    match read_number(field) {
-        Some(v) if v <= 250 => Some(v),
-        _ => None,
-    }
+    read_number(field).filter(|v| *v <= LAST)
+}
+
+// The relation with these two parts.
+fn read_parts(first: &[u8], second: &[u8]) -> Option<Drum>
+    ensures { result ≡ both_named (number_named first.now) (number_named second.now) }
+{
+    let multiplier = read_number(first).filter(|a| (1..=LAST).contains(a))?;
+    let addend = read_value(second)?;
+    Some(Drum { multiplier, addend })
+}
+
+// The relation that a field names.
+pub(crate) fn read_drum(field: &[u8]) -> Option<Drum>
+    ensures { result ≡ drum_named field.now }
+{
+    let (first, rest) = cut(field, b'|');
+    let (second, None) = cut(rest?, b'|') else {
+        return None;
+    };
+    read_parts(first, second)
 }

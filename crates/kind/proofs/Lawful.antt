@@ -58,8 +58,8 @@ lawful m = record {
 
 -- the laws on the bytes of words and on reading
 pub record Worded {K R S : Type 0} (k : Ghosts K R S) : Type 0 where
-  pub word_length : (g : R) → (0 < length (k.word g)) × (length (k.word g) ≤ k.wide)
-  pub label_length : (s : S) → (0 < length (k.label s)) × (length (k.label s) ≤ k.wide)
+  pub word_length : (g : R) → (0 < length (k.word g)) × (length (k.word g) ≤ k.W)
+  pub label_length : (s : S) → (0 < length (k.label s)) × (length (k.label s) ≤ k.W)
   pub word_plain : (g : R) → all_plain (k.word g) ≡ true
   pub label_plain : (s : S) → all_plain (k.label s) ≡ true
   pub named_word : (field : List ℕ) (g : R) → k.named field ≡ Some g → k.word g ≡ field

@@ -4,7 +4,6 @@
 ghost use Rattle.std.specs.Prelude.{◌≡◌, ℕ, ◌<◌, ◌≤◌, Bool, true, ◌&&◌, List, length, is_some, Some, Option, ◌==◌};
 ghost use Rattle.std.specs.Option.{ok_or};
 ghost use Rattle.words.specs.Plain.{all_plain};
-ghost use Rattle.words.specs.Spelt.{spelt};
 ghost use Rattle.kind.specs.Tally.{members, Tallied};
 ghost use Rattle.kind.specs.declared.fault.WordFault.TheVariants.{NotAWord};
 
@@ -22,6 +21,8 @@ pub trait Kind {
 
     // No word of the kind is longer.
     const W: usize;
+
+    ghost W: { ℕ };
 
     // The values are the numbers below it.
     ghost span: { ℕ };
@@ -51,21 +52,21 @@ pub trait Kind {
 
     ghost count: { Self.Set → ℕ };
 
-    // The word of a relation, the word of a set (its label), and W as a number.
+    // The word of a relation, and the word of a set (its label).
     ghost word: { Self.Relation → List ℕ };
 
     ghost label: { Self.Set → List ℕ };
-
-    ghost wide: { ℕ };
 
     // The relation that a field names, and the set that it labels, if any.
     ghost named: { List ℕ → Option Self.Relation };
 
     ghost labelled: { List ℕ → Option Self.Set };
 
-    // W, for generic code, where a clause cannot name the constant.
     fn width() -> usize
-        ensures { result ≡ wide };
+        ensures { result ≡ W }
+    {
+        Self::W
+    }
 
     // Takes every value to itself.
     fn identity() -> Self::Relation
@@ -109,10 +110,10 @@ pub trait Kind {
         ensures { result ≡ ok_or (labelled field.now) NotAWord };
 
     fn relation_word(g: Self::Relation) -> Word
-        ensures { spelt result ≡ word g };
+        ensures { result ≡ word g };
 
     fn set_word(s: Self::Set) -> Word
-        ensures { spelt result ≡ label s };
+        ensures { result ≡ label s };
 
     ghost positive: { 0 < span };
 
@@ -140,11 +141,11 @@ pub trait Kind {
 
     ghost count_tells: { (s : Self.Set) → Tallied (members (has s) span) (count s) };
 
-    ghost narrow: { wide ≤ 32 };
+    ghost narrow: { W ≤ 32 };
 
-    ghost word_length: { (g : Self.Relation) → (0 < length (word g)) × (length (word g) ≤ wide) };
+    ghost word_length: { (g : Self.Relation) → (0 < length (word g)) × (length (word g) ≤ W) };
 
-    ghost label_length: { (s : Self.Set) → (0 < length (label s)) × (length (label s) ≤ wide) };
+    ghost label_length: { (s : Self.Set) → (0 < length (label s)) × (length (label s) ≤ W) };
 
     ghost word_plain: { (g : Self.Relation) → all_plain (word g) ≡ true };
 

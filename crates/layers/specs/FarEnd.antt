@@ -29,7 +29,7 @@ module _ {K R S : Type 0} (k : Ghosts K R S) where
     count = k.count;
     word = k.word;
     label = k.label;
-    wide = k.wide;
+    W = k.W;
     named = k.named;
     labelled = k.labelled;
   }

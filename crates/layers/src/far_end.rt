@@ -19,6 +19,8 @@ impl<K: Kind> Kind for FarEnd<K> {
 
     const W: usize = K::W;
 
+    ghost W = { K.Kind.W };
+
     ghost span = { K.Kind.span };
 
     ghost act = { far_act K.Kind };
@@ -46,8 +48,6 @@ impl<K: Kind> Kind for FarEnd<K> {
     ghost word = { K.Kind.word };
 
     ghost label = { K.Kind.label };
-
-    ghost wide = { K.Kind.wide };
 
     ghost named = { K.Kind.named };
 
@@ -104,10 +104,6 @@ impl<K: Kind> Kind for FarEnd<K> {
     ghost labelled_label = { Prim.search rules };
 
     ghost label_labelled = { Prim.search rules };
-
-    fn width() -> usize {
-        K::width()
-    }
 
     fn identity() -> K::Relation {
         K::identity()

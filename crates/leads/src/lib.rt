@@ -9,17 +9,17 @@ ghost use Rattle.words.proofs.Reading.{first_with_word};
 ghost use Rattle.std.proofs.Common.{rules};
 
 use kind::{Kind, WordFault};
-use words::{Word, same_bytes};
+use words::Word;
 
 // How one pair of leads is joined to another.
-#[derive(Clone, Copy)]
+#[derive(Clone, Copy, PartialEq, Eq, Debug)]
 pub enum Turn {
     Same,
     Crossed,
 }
 
 // Which of the two values are in a set.
-#[derive(Clone, Copy)]
+#[derive(Clone, Copy, PartialEq, Eq, Debug)]
 pub struct Ends {
     pub plus: bool,
     pub minus: bool,
@@ -56,6 +56,8 @@ impl Kind for Leads {
 
     const W: usize = 7;
 
+    ghost W = { 7 };
+
     ghost span = { 2 };
 
     ghost act = { turn_act };
@@ -83,8 +85,6 @@ impl Kind for Leads {
     ghost word = { turn_word };
 
     ghost label = { ends_label };
-
-    ghost wide = { 7 };
 
     ghost named = { turn_named };
 
@@ -141,10 +141,6 @@ impl Kind for Leads {
     ghost labelled_label = { first_with_word ends_label all_ends };
 
     ghost label_labelled = { Prim.search rules };
-
-    fn width() -> usize {
-        Self::W
-    }
 
     fn identity() -> Turn {
         Turn::Same
@@ -203,26 +199,20 @@ impl Kind for Leads {
     }
 
     fn read_relation(field: &[u8]) -> Result<Turn, WordFault> {
-        if same_bytes(field, b"same") {
-            Ok(Turn::Same)
-        } else if same_bytes(field, b"crossed") {
-            Ok(Turn::Crossed)
-        } else {
-            Err(WordFault::NotAWord)
+        match field {
+            b"same" => Ok(Turn::Same),
+            b"crossed" => Ok(Turn::Crossed),
+            _ => Err(WordFault::NotAWord),
         }
     }
 
     fn read_set(field: &[u8]) -> Result<Ends, WordFault> {
-        if same_bytes(field, b"none") {
-            Ok(Ends::NONE)
-        } else if same_bytes(field, b"plus") {
-            Ok(Ends::PLUS)
-        } else if same_bytes(field, b"minus") {
-            Ok(Ends::MINUS)
-        } else if same_bytes(field, b"any") {
-            Ok(Ends::ANY)
-        } else {
-            Err(WordFault::NotAWord)
+        match field {
+            b"none" => Ok(Ends::NONE),
+            b"plus" => Ok(Ends::PLUS),
+            b"minus" => Ok(Ends::MINUS),
+            b"any" => Ok(Ends::ANY),
+            _ => Err(WordFault::NotAWord),
         }
     }
 

@@ -12,11 +12,6 @@ fields text = parts 9 text
 abbrev pub remaining : Option (Bor (List ℕ)) → List (List ℕ)
 remaining rest = parts_left 9 rest
 
--- exactly no field
-abbrev pub none : List (List ℕ) → Result (Unit {0}) LineFault
-none [] = Ok tt
-none (a ∷ fs) = Err Shape
-
 -- exactly two fields
 abbrev pub two : List (List ℕ) → Result (List ℕ × List ℕ) LineFault
 two [] = Err Shape
@@ -31,13 +26,3 @@ three (a ∷ []) = Err Shape
 three (a ∷ b ∷ []) = Err Shape
 three (a ∷ b ∷ c ∷ []) = Ok (a, b, c)
 three (a ∷ b ∷ c ∷ d ∷ fs) = Err Shape
-
--- the bytes of two parts of a text
-abbrev pub both : Result (Bor (List ℕ) × Bor (List ℕ)) LineFault → Result (List ℕ × List ℕ) LineFault
-both (Ok p) = Ok (p.0.now, p.1.now)
-both (Err e) = Err e
-
--- the bytes of three parts of a text
-abbrev pub all_three : Result (Bor (List ℕ) × Bor (List ℕ) × Bor (List ℕ)) LineFault → Result (List ℕ × List ℕ × List ℕ) LineFault
-all_three (Ok p) = Ok (p.0.now, p.1.now, p.2.now)
-all_three (Err e) = Err e

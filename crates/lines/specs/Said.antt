@@ -1,5 +1,6 @@
 -- What a line says.
 use Rattle.std.specs.Prelude.{ℕ, cond, List, [], ◌∷◌, length, Some, None, Ok, Err, codes, Option, Result, nat_lt}
+use Rattle.std.specs.Borrow.{Bor}
 use Rattle.std.specs.Str.{bytes_eq}
 use Rattle.words.specs.Reading.{first_with}
 use Rattle.lines.specs.Fields.{fields, two, three}
@@ -7,8 +8,9 @@ use Rattle.lines.specs.declared.fault.LineFault.{LineFault}
 use Rattle.lines.specs.declared.fault.LineFault.TheVariants.{Long, Shape}
 use Rattle.lines.specs.declared.line.SheetName.{SheetName}
 use Rattle.lines.specs.declared.line.SheetName.TheVariants.{Leads, Phases, Drums, Temps}
-use Rattle.lines.specs.declared.line.Line.{Line}
-use Rattle.lines.specs.declared.line.Line.TheVariants.{Note, See, Ask}
+use Rattle.lines.specs.declared.saying.Comparison.{Comparison}
+use Rattle.lines.specs.declared.saying.Saying.{Saying}
+use Rattle.lines.specs.declared.saying.Saying.TheVariants.{Note, See, Ask}
 use Rattle.lines.specs.declared.line.Request.{Request}
 
 -- a line by its words
@@ -22,10 +24,18 @@ pub record Heard : Type 0 where
   pub sheet : SheetName
   pub said : Said
 
+-- the code's line
+abbrev pub Line : Type 0
+Line = Saying (Bor (List ℕ)) (Bor (List ℕ)) (Bor (List ℕ))
+
+-- the words of a comparison
+abbrev pub compared : Comparison (Bor (List ℕ)) (Bor (List ℕ)) → List ℕ × List ℕ × List ℕ
+compared c = (c.x.now, c.y.now, c.relation.now)
+
 abbrev pub said_of : Line → Said
-said_of (Note x y g) = note x.now y.now g.now
+said_of (Note c) = note c.x.now c.y.now c.relation.now
 said_of (See x s) = see x.now s.now
-said_of (Ask x y g) = ask x.now y.now g.now
+said_of (Ask c) = ask c.x.now c.y.now c.relation.now
 
 abbrev pub heard_of : Request → Heard
 heard_of r = record { sheet = r.sheet; said = said_of r.line }

@@ -4,9 +4,10 @@
 mod fault;
 mod fields;
 mod line;
-mod number;
 mod point;
+mod saying;
 
 pub use fault::LineFault;
-pub use line::{Line, Request, SheetName, read_line};
+pub use line::{Request, SheetName, read_line};
 pub use point::read_point;
+pub use saying::{Comparison, Line, Saying};

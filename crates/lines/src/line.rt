@@ -1,13 +1,13 @@
 // What a line asks for.
 ghost use Rattle.std.specs.Prelude.{◌≡◌};
 ghost use Rattle.std.specs.Option.{ok_or};
-ghost use Rattle.lines.specs.Fields.{remaining};
-ghost use Rattle.lines.specs.Said.{with, sheet_named, said_of, said_by, heard, parse};
+ghost use Rattle.lines.specs.Fields.{remaining, two, three};
+ghost use Rattle.lines.specs.Said.{with, see, sheet_named, compared, said_of, said_by, heard, parse};
 ghost use Rattle.lines.specs.declared.fault.LineFault.TheVariants.{Shape};
 
 use crate::fault::LineFault;
-use crate::fields::{TAB, field, three_fields, two_fields};
-use words::{cut, same_bytes};
+use crate::fields::Fields;
+use crate::saying::{Comparison, Line, Saying};
 
 #[derive(Clone, Copy, PartialEq, Eq, Debug)]
 pub enum SheetName {
@@ -17,26 +17,7 @@ pub enum SheetName {
     Temps,
 }
 
-// What is asked of a sheet; the fields are parts of the text that was read.
-#[derive(Clone, Copy)]
-pub enum Line<'a> {
-    Note {
-        x: &'a [u8],
-        y: &'a [u8],
-        relation: &'a [u8],
-    },
-    See {
-        x: &'a [u8],
-        set: &'a [u8],
-    },
-    Ask {
-        x: &'a [u8],
-        y: &'a [u8],
-        relation: &'a [u8],
-    },
-}
-
-#[derive(Clone, Copy)]
+#[derive(Clone, Copy, PartialEq, Eq, Debug)]
 pub struct Request<'a> {
     pub sheet: SheetName,
     pub line: Line<'a>,
@@ -45,49 +26,67 @@ pub struct Request<'a> {
 const LONGEST: usize = 64;
 
 // The line that a text is, without its line feed.
-pub fn read_line<'a>(text: &'a [u8]) -> Result<Request<'a>, LineFault>
+pub fn read_line(text: &[u8]) -> Result<Request<'_>, LineFault>
     ensures { heard result ≡ parse text.now }
 {
     if text.len() > LONGEST {
         return Err(LineFault::Long);
     }
-    let (name, rest) = cut(text, TAB);
+    let mut fields = Fields::of(text);
+    let (Some(name), Some(verb)) = (fields.next(), fields.next()) else {
+        return Err(LineFault::Shape);
+    };
     let sheet = read_sheet(name)?;
-    let (verb, rest) = field(rest)?;
-    let line = line_of(verb, rest)?;
+    let line = line_of(verb, fields)?;
     Ok(Request { sheet, line })
 }
 
+// No `TryFrom`, which would say the same in more lines.
 fn read_sheet(name: &[u8]) -> Result<SheetName, LineFault>
     ensures { result ≡ ok_or (sheet_named name.now) Shape }
 {
-    if same_bytes(name, b"leads") {
-        Ok(SheetName::Leads)
-    } else if same_bytes(name, b"phases") {
-        Ok(SheetName::Phases)
-    } else if same_bytes(name, b"drums") {
-        Ok(SheetName::Drums)
-    } else if same_bytes(name, b"temps") {
-        Ok(SheetName::Temps)
-    } else {
-        Err(LineFault::Shape)
+    match name {
+        b"leads" => Ok(SheetName::Leads),
+        b"phases" => Ok(SheetName::Phases),
+        b"drums" => Ok(SheetName::Drums),
+        b"temps" => Ok(SheetName::Temps),
+        _ => Err(LineFault::Shape),
     }
 }
 
 // What a verb says with the fields that follow it.
-fn line_of<'a>(verb: &[u8], rest: Option<&'a [u8]>) -> Result<Line<'a>, LineFault>
-    ensures { with said_of result ≡ said_by verb.now (remaining rest.entry) }
+fn line_of<'a>(verb: &[u8], fields: Fields<'a>) -> Result<Line<'a>, LineFault>
+    ensures { with said_of result ≡ said_by verb.now (remaining fields.entry.rest) }
 {
-    if same_bytes(verb, b"note") {
-        let (x, y, relation) = three_fields(rest)?;
-        Ok(Line::Note { x, y, relation })
-    } else if same_bytes(verb, b"see") {
-        let (x, set) = two_fields(rest)?;
-        Ok(Line::See { x, set })
-    } else if same_bytes(verb, b"ask") {
-        let (x, y, relation) = three_fields(rest)?;
-        Ok(Line::Ask { x, y, relation })
-    } else {
-        Err(LineFault::Shape)
+    match verb {
+        b"note" => Ok(Saying::Note(comparison(fields)?)),
+        b"see" => sighting(fields),
+        b"ask" => Ok(Saying::Ask(comparison(fields)?)),
+        _ => Err(LineFault::Shape),
     }
+}
+
+// The comparison that three fields are.
+fn comparison<'a>(mut fields: Fields<'a>) -> Result<Comparison<&'a [u8], &'a [u8]>, LineFault>
+    ensures { with compared result ≡ three (remaining fields.entry.rest) }
+{
+    let (Some(x), Some(y), Some(relation), None) = (
+        fields.next(),
+        fields.next(),
+        fields.next(),
+        fields.next(),
+    ) else {
+        return Err(LineFault::Shape);
+    };
+    Ok(Comparison { x, y, relation })
+}
+
+// The sighting that two fields are.
+fn sighting(mut fields: Fields<'_>) -> Result<Line<'_>, LineFault>
+    ensures { with said_of result ≡ with (λ t. see t.0 t.1) (two (remaining fields.entry.rest)) }
+{
+    let (Some(x), Some(set), None) = (fields.next(), fields.next(), fields.next()) else {
+        return Err(LineFault::Shape);
+    };
+    Ok(Saying::See { x, set })
 }

@@ -7,14 +7,11 @@ ghost use Rattle.lines.specs.declared.fault.LineFault.TheVariants.{Point};
 use crate::fault::LineFault;
 use words::read_number;
 
-const LAST: u32 = 255;
-
 // The point that a field writes, a number from 0 to 255 without a leading zero.
 pub fn read_point(field: &[u8]) -> Result<u8, LineFault>
     ensures { result ≡ ok_or (point_of field.now) Point }
 {
-    match read_number(field) {
-        Some(n) if n <= LAST => Ok(n as u8),
-        _ => Err(LineFault::Point),
-    }
+    read_number(field)
+        .and_then(|n| u8::try_from(n).ok())
+        .ok_or(LineFault::Point)
 }

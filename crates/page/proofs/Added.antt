@@ -1,9 +1,9 @@
 -- What a page is after a text was written or refused.
-use Rattle.std.proofs.Common.{◌≡◌, ℕ, ◌+◌, ◌≤◌, Bool, true, false, cond, List, length, drop, Ok, Err, Result, refl, ap, ◌∙◌, MatchResult}
+use Rattle.std.proofs.Common.{◌≡◌, ℕ, ◌+◌, ◌≤◌, Bool, true, false, cond, List, length, drop, Ok, Err, Result, MutBor, refl, ap, ◌∙◌, MatchResult}
 use Rattle.std.proofs.lemmas.Bool.{leb-true}
 use Rattle.page.specs.Adding.{bytes_with, mark_with}
 use Rattle.page.specs.Filled.{overlaid, wrote}
-use Rattle.page.specs.Pages.{seen}
+use Rattle.page.specs.Pages.{seen, SamePlace}
 use Rattle.page.specs.Wiped.{limit, wiped, BlankFrom}
 use Rattle.page.specs.Writing.{has_room, told}
 use Rattle.page.specs.declared.full.PageFull.{PageFull}
@@ -15,15 +15,15 @@ module _ (bytes : List ℕ) (mark : ℕ) (text : List ℕ) where
   room : has_room bytes mark text ≡ true → mark + length text ≤ limit bytes
   room e = leb-true (mark + length text) (limit bytes) e
 
-  pub past_with : drop 65536 (bytes_with bytes mark text) ≡ drop 65536 bytes
+  past_with : drop 65536 (bytes_with bytes mark text) ≡ drop 65536 bytes
   past_with = split (has_room bytes mark text) refl
     where
       split : (b : Bool) → has_room bytes mark text ≡ b → drop 65536 (cond b (overlaid bytes mark text) (wiped bytes mark)) ≡ drop 65536 bytes
       split true e = past_overlaid bytes mark text (room e)
       split false e = past_wiped bytes mark
 
-  pub blank_with : BlankFrom bytes mark → BlankFrom (bytes_with bytes mark text) (mark_with bytes mark text)
-  blank_with k = split (has_room bytes mark text) refl
+  pub blank_with : (after : List ℕ) (end : ℕ) → after ≡ bytes_with bytes mark text → end ≡ mark_with bytes mark text → BlankFrom bytes mark → BlankFrom after end
+  blank_with after end is ends k = rw (is, ends) (split (has_room bytes mark text) refl)
     where
       split : (b : Bool) → has_room bytes mark text ≡ b → BlankFrom (cond b (overlaid bytes mark text) (wiped bytes mark)) (cond b (mark + length text) mark)
       split true e = blank_overlaid bytes mark text k (room e)
@@ -36,3 +36,6 @@ module _ (bytes : List ℕ) (mark : ℕ) (text : List ℕ) where
       split true e p q w =
           rw p ((λ j. seen (q j) (w j)) ∙ (λ j. record { bytes = used_overlaid bytes mark text (room e) j; mark = mark + length text }))
       split false e p q w = rw p (λ k. (λ j. seen (q j) (w j)) ∙ ap (λ l. seen l mark) k.zeros)
+
+pub place_with : (old new : MutBor (List ℕ)) (mark : ℕ) (text : List ℕ) → new.now ≡ bytes_with old.now mark text → new.ghost_name ≡ old.ghost_name → SamePlace old new
+place_with old new mark text is lent = record { past = ap (drop 65536) is ∙ past_with old.now mark text; lent = lent }

@@ -1,5 +1,6 @@
 pub mod Added
 pub mod Blanks
+mod Emptying
 pub mod Listings
 pub mod Overlays
 mod Uses

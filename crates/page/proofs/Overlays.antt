@@ -1,6 +1,6 @@
 -- A text put over other bytes.
 use Rattle.std.proofs.Common.{◌≡◌, ℕ, ◌+◌, ◌-◌, ◌≤◌, List, [], ◌++◌, length, take, drop, sym, ap, ◌∙◌, append_assoc, add-zero, arith, length-append, length-drop, take-append-drop, length-take, take-take, take_at}
-use lib.Seq.{take-append-le, take-append-add}
+use Rattle.std.proofs.Math.Seq.{take-append-le, take-append-add}
 use Rattle.std.proofs.lemmas.List.{drop-take}
 use Rattle.std.proofs.lemmas.Slice.{drop-append-drop}
 use Rattle.page.specs.Filled.{overlaid}

@@ -1,6 +1,6 @@
 -- Bytes with zeros past a mark.
 use Rattle.std.proofs.Common.{◌≡◌, ℕ, ◌+◌, ◌-◌, ◌≤◌, min, max, List, ◌++◌, length, take, drop, replicate, sym, refl, ap, ◌∙◌, ⊎_elim, append_assoc, arith, length-append, length-drop, take-append-drop, length-take, take_at}
-use lib.ListN.{length-replicate}
+use Rattle.std.proofs.Math.ListN.{length-replicate}
 use Rattle.std.proofs.lemmas.Slice.{drop-append-drop}
 use Rattle.std.proofs.lemmas.Bool.{cases_lt}
 use Rattle.page.specs.Filled.{overlaid}
@@ -37,6 +37,14 @@ unfolding wiped
 wiped_some bytes a e w h =
     let far : e ≡ max a (limit bytes) = omega arith in
     λ j. take a bytes ++ (replicate (w j - a) 0 ++ drop (far j) bytes)
+
+-- and from the limit on, if a is past it
+pub wiped_at : (bytes : List ℕ) (a m e : ℕ) → e ≡ limit bytes → m ≡ min a e → take m bytes ++ (replicate (e - m) 0 ++ drop e bytes) ≡ wiped bytes a
+wiped_at bytes a m e w is =
+    ⊎_elim
+    (λ h. let same : m ≡ a = omega arith in ap (λ n. take n bytes ++ (replicate (e - n) 0 ++ drop e bytes)) same ∙ wiped_some bytes a e w (omega arith))
+    (λ h. wiped_some bytes m e w (omega arith) ∙ wiped_none bytes m (omega arith) ∙ sym (wiped_none bytes a (omega arith)))
+    (cases_lt a e)
 
 -- the bytes as they are before a, zeros, and the bytes as they are past the limit
 parted : (bytes : List ℕ) (a : ℕ) → a ≤ limit bytes → wiped bytes a ≡ (take a bytes ++ replicate (limit bytes - a) 0) ++ drop (limit bytes) bytes

@@ -45,9 +45,7 @@ impl<'p> Guard<'p> {
         ensures nothing { result ≡ Err Full → self.exit.now ≡ self.entry.now }
     {
         let at = *self.mark;
-        if !put(self.bytes, at, text) {
-            return Err(PageFull::Full);
-        }
+        put(self.bytes, at, text)?;
         *self.mark = at + text.len();
         Ok(())
     }
@@ -57,6 +55,7 @@ impl<'p> Guard<'p> {
         ensures bytes { self.exit.0.now ≡ self.entry.bytes.now }
         ensures mark { self.exit.1.0.now ≡ self.entry.mark.now }
     {
+        // A forgotten value would tell nothing of what it lent, so the fields are let go one by one.
         let Guard {
             bytes: _,
             mark: _,

@@ -1,7 +1,6 @@
 // A page: bytes that are filled from the start up to a mark, and the guard of a listing under way.
 #![tactic(auto)]
 
-mod adding;
 mod full;
 mod guard;
 mod page;

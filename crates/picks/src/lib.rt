@@ -1,13 +1,14 @@
 // Sets of none, one or all of the numbers below a bound.
 #![tactic(auto)]
 
-ghost use Rattle.std.specs.Prelude.{◌≡◌, ◌+◌, ◌%◌};
-ghost use Rattle.picks.specs.Picks.{pick_meet, pick_inside, pick_count, pick_read};
+ghost use Rattle.std.specs.Prelude.{◌≡◌, ℕ, ◌+◌, ◌%◌, List};
+ghost use Rattle.picks.specs.Closures.{ForOne, Maps, Spells, Computes};
+ghost use Rattle.picks.specs.Picks.{pick_meet, pick_shift, pick_inside, pick_count, pick_label, pick_read};
 
-use words::same_bytes;
+use words::Word;
 
 // `One(a)` stands for the residue of a, so each number stands for one value.
-#[derive(Clone, Copy)]
+#[derive(Clone, Copy, Debug, PartialEq, Eq)]
 pub enum Pick {
     Nothing,
     One(u32),
@@ -21,7 +22,7 @@ fn residue(a: u32, last: u32) -> u32
     if a <= last { a } else { a % (last + 1) }
 }
 
-// The values are those up to `last`.
+// The values are those up to `last`: as a const parameter it would stand in every definition that speaks of a set.
 impl Pick {
     // The values of both sets.
     pub fn common(self, other: Pick, last: u32) -> Pick
@@ -30,13 +31,7 @@ impl Pick {
         match (self, other) {
             (Pick::Any, _) => other,
             (Pick::One(_), Pick::Any) => self,
-            (Pick::One(a), Pick::One(b)) => {
-                if residue(a, last) == residue(b, last) {
-                    self
-                } else {
-                    Pick::Nothing
-                }
-            }
+            (Pick::One(a), Pick::One(b)) if residue(a, last) == residue(b, last) => self,
             _ => Pick::Nothing,
         }
     }
@@ -52,6 +47,31 @@ impl Pick {
         }
     }
 
+    // As `Option::map`: one value becomes what f makes of it.
+    pub fn map<F: FnOnce(u32) -> u32>(self, f: F) -> Pick
+        requires { ForOne self (F.pre f) }
+        ensures maps { Maps (F.post f) self result }
+        ensures computes { (m : ℕ) (g : ℕ → ℕ) → Computes (F.post f) (λ v. g (v % m)) → result ≡ pick_shift m g self }
+    {
+        match self {
+            Pick::One(v) => Pick::One(f(v)),
+            _ => self,
+        }
+    }
+
+    // The word of the set, where spell writes a value.
+    pub fn word<F: FnOnce(u32) -> Word>(self, spell: F) -> Word
+        requires { ForOne self (F.pre spell) }
+        ensures spells { Spells (F.post spell) self result }
+        ensures computes { (m : ℕ) (text : ℕ → List ℕ) → Computes (F.post spell) (λ v. text (v % m)) → result ≡ pick_label m text self }
+    {
+        match self {
+            Pick::Nothing => Word::of(b"none"),
+            Pick::One(v) => spell(v),
+            Pick::Any => Word::of(b"any"),
+        }
+    }
+
     // How many values the set has, and 256 for more than 255.
     pub fn tally(self, last: u32) -> u16
         ensures { result ≡ pick_count (last + 1) self }
@@ -59,7 +79,8 @@ impl Pick {
         match self {
             Pick::Nothing => 0,
             Pick::One(_) => 1,
-            Pick::Any => { if last < 255 { last as u16 + 1 } else { 256 } }
+            // At most 255: `u8::try_from(last).map_or(256, |low| u16::from(low) + 1)` is no plainer
+            Pick::Any => last.min(255) as u16 + 1,
         }
     }
 
@@ -67,15 +88,10 @@ impl Pick {
     pub fn read(field: &[u8], value: Option<u32>) -> Option<Pick>
         ensures { result ≡ pick_read field.now value }
     {
-        if same_bytes(field, b"none") {
-            Some(Pick::Nothing)
-        } else if same_bytes(field, b"any") {
-            Some(Pick::Any)
-        } else {
-            match value {
-                Some(v) => Some(Pick::One(v)),
-                None => None,
-            }
+        match field {
+            b"none" => Some(Pick::Nothing),
+            b"any" => Some(Pick::Any),
+            _ => value.map(Pick::One),
         }
     }
 }

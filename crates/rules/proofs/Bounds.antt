@@ -17,7 +17,7 @@ point_short x low = length-decimal-le 3 x (omega arith) (omega arith) (omega ari
 
 module _ {K R S : Type 0} (k : Ghosts K R S) (worded : Worded k) where
   -- verb, two points and a relation, three tabs and a line feed; a sighting has fewer
-  line_short : (l : Line R S) → On 256 l → length (line_text k l) ≤ 14 + k.wide
+  line_short : (l : Line R S) → On 256 l → length (line_text k l) ≤ 14 + k.W
   line_short (note x y g) on =
       simp length-append (omega (arith, point_short x on.0, point_short y on.1, (worded.word_length g).1))
   line_short (see x s) on = simp length-append (omega (arith, point_short x on.0, (worded.label_length s).1))

@@ -35,4 +35,4 @@ module _ {K R S : Type 0} (k : Ghosts K R S) where
 
   -- no listing of n points is longer
   abbrev pub bound_of : ℕ → ℕ
-  bound_of n = (14 + k.wide) * n
+  bound_of n = (14 + k.W) * n

@@ -1,7 +1,7 @@
 // The rules of a sheet, and the theorem on every succession of calls.
 #![tactic(auto)]
 
-ghost use Rattle.std.specs.Prelude.{◌≡◌, ℕ, ◌≤◌, length};
+ghost use Rattle.std.specs.Prelude.{ℕ, ◌≤◌, length};
 ghost use Rattle.rules.specs.Calls.{Call, Outcome};
 ghost use Rattle.rules.specs.Listing.{bound_of};
 ghost use Rattle.rules.specs.Reached.{Step, WhateverFollows, Makes, Bounded};

@@ -1,10 +1,11 @@
--- What calls leave alone.
-use Rattle.std.proofs.Common.{◌≡◌, drop, refl, ap}
+-- What a call keeps that writes no log.
+use Rattle.std.proofs.Common.{◌≡◌, drop, ap}
 use Rattle.sheet.specs.declared.sheet.Sheet.{Sheet}
-use Rattle.sheet.specs.Frame.{Frame}
+use Rattle.sheet.specs.Frame.{Keeps}
 
-pub log_kept : {K R S : Type 0} (a b : Sheet K R S) → drop 256 b.nodes.now ≡ drop 256 a.nodes.now → b.log ≡ a.log → Frame a b
-log_kept a b past same = record { nodes_past = past; log_past = ap (λ l. drop 512 l.now) same; log_idle = λ _. ap (λ l. l.now) same }
-
-pub all_kept : {K R S : Type 0} (a : Sheet K R S) → Frame a a
-all_kept a = log_kept a a refl refl
+pub log_kept : {K R S : Type 0} (a b : Sheet K R S) → drop 256 b.nodes.now ≡ drop 256 a.nodes.now → b.nodes.ghost_name ≡ a.nodes.ghost_name → b.log ≡ a.log → Keeps a b
+log_kept a b past lent same = record {
+  frame = record { nodes_past = past; log_past = ap (λ l. drop 512 l.now) same; log_idle = λ _. ap (λ l. l.now) same };
+  nodes = lent;
+  log = ap (λ l. l.ghost_name) same;
+}

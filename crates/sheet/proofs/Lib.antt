@@ -1,2 +1,3 @@
 mod Entering
 mod Framing
+mod Used

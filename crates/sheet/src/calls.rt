@@ -1,70 +1,51 @@
 // The calls on a sheet.
-ghost use Rattle.std.specs.Prelude.{◌≡◌, ◌&&◌, take};
-ghost use Rattle.table.specs.Look.{Looks};
-ghost use Rattle.table.specs.Note.{Meets};
-ghost use Rattle.table.specs.See.{Narrows};
+ghost use Rattle.std.specs.Prelude.{◌≡◌, ◌&&◌, take, if◌then◌else◌, Ok, Err};
 ghost use Rattle.sheet.specs.Calls.{enter, note, see, ask};
-ghost use Rattle.sheet.specs.Frame.{Frame, RefusedUnchanged};
+ghost use Rattle.sheet.specs.Frame.{Keeps, RefusedUnchanged};
 ghost use Rattle.sheet.specs.State.{on};
 ghost use Rattle.sheet.specs.Step.{Step, LooksAt};
 ghost use Rattle.sheet.specs.View.{view, entering, asking};
+ghost use Rattle.sheet.specs.declared.refusal.Refusal.TheVariants.{OffSheet};
 
 use crate::refusal::Refusal;
 use crate::sheet::Sheet;
 use kind::Kind;
-use table::{Answer, Meeting, Narrowing, Node};
+use table::{Answer, NodeOf};
 
-impl<'a, K: Kind> Sheet<'a, K> {
+impl<K: Kind> Sheet<'_, K> {
     // The points in use.
-    fn table(&self) -> &[Node<K::Relation, K::Set>]
+    fn table(&self) -> &[NodeOf<K>]
         ensures { result.now ≡ take 256 self.now.nodes.now }
     {
-        let n = self.nodes.len().min(256);
-        &self.nodes[0..n]
+        self.nodes.get(..256).unwrap_or(self.nodes)
     }
 
-    fn has(&self, x: u8) -> bool
-        ensures { result ≡ on (view self.now) x }
+    // Refuses a point that is not on the sheet.
+    fn check(&self, x: u8) -> Result<(), Refusal>
+        ensures { result ≡ (if on (view self.now) x then Ok tt else Err OffSheet) }
     {
-        (x as usize) < self.table().len()
+        if usize::from(x) < self.table().len() {
+            Ok(())
+        } else {
+            Err(Refusal::OffSheet)
+        }
     }
 
-    fn has_both(&self, x: u8, y: u8) -> bool
-        ensures { result ≡ (on (view self.now) x && on (view self.now) y) }
+    fn check_both(&self, x: u8, y: u8) -> Result<(), Refusal>
+        ensures { result ≡ (if on (view self.now) x && on (view self.now) y then Ok tt else Err OffSheet) }
     {
-        self.has(x) && self.has(y)
+        self.check(x).and(self.check(y))
     }
 
-    fn meeting(&self, x: u8, y: u8, g: K::Relation) -> Meeting<K::Relation, K::Set>
-        ensures { Meets K.Kind (view self.now).table x y g result }
-    {
-        table::meet::<K>(self.table(), x, y, g)
-    }
-
-    fn narrowing(&self, x: u8, s: K::Set) -> Narrowing<K::Set>
-        ensures { Narrows K.Kind (view self.now).table x s result }
-    {
-        table::narrow::<K>(self.table(), x, s)
-    }
-
-    fn values(&self, x: u8) -> K::Set
-        ensures { Looks K.Kind (view self.now).table x result }
-    {
-        table::look::<K>(self.table(), x)
-    }
-
-    // Notes that the value of x is g applied to the value of y.
+    // Notes that the value of x is g applied to the value of y. Three arguments, here and in
+    // `ask`: `note(Comparison { x, y, relation: g })` is no plainer for a builder.
     pub fn note(&mut self, x: u8, y: u8, g: K::Relation) -> Result<(), Refusal>
         ensures step { Step K.Kind (view self.old) (enter (note x y g)) (entering result) (view self.new) }
         ensures unchanged { RefusedUnchanged result self.old self.new }
-        ensures frame { Frame self.old self.new }
-        ensures nodes_lent { self.new.nodes.ghost_name ≡ self.old.nodes.ghost_name }
-        ensures log_lent { self.new.log.ghost_name ≡ self.old.log.ghost_name }
+        ensures keeps { Keeps self.old self.new }
     {
-        if !self.has_both(x, y) {
-            return Err(Refusal::OffSheet);
-        }
-        let meeting = self.meeting(x, y, g);
+        self.check_both(x, y)?;
+        let meeting = table::meet::<K>(self.table(), x, y, g);
         if table::is_empty::<K>(meeting.left) {
             return Err(Refusal::Contrary);
         }
@@ -76,14 +57,10 @@ impl<'a, K: Kind> Sheet<'a, K> {
     pub fn see(&mut self, x: u8, s: K::Set) -> Result<(), Refusal>
         ensures step { Step K.Kind (view self.old) (enter (see x s)) (entering result) (view self.new) }
         ensures unchanged { RefusedUnchanged result self.old self.new }
-        ensures frame { Frame self.old self.new }
-        ensures nodes_lent { self.new.nodes.ghost_name ≡ self.old.nodes.ghost_name }
-        ensures log_lent { self.new.log.ghost_name ≡ self.old.log.ghost_name }
+        ensures keeps { Keeps self.old self.new }
     {
-        if !self.has(x) {
-            return Err(Refusal::OffSheet);
-        }
-        let narrowing = self.narrowing(x, s);
+        self.check(x)?;
+        let narrowing = table::narrow::<K>(self.table(), x, s);
         if table::is_empty::<K>(narrowing.left) {
             return Err(Refusal::Contrary);
         }
@@ -95,9 +72,7 @@ impl<'a, K: Kind> Sheet<'a, K> {
     pub fn ask(&self, x: u8, y: u8, g: K::Relation) -> Result<Answer, Refusal>
         ensures { Step K.Kind (view self.now) (ask x y g) (asking result) (view self.now) }
     {
-        if !self.has_both(x, y) {
-            return Err(Refusal::OffSheet);
-        }
+        self.check_both(x, y)?;
         Ok(table::ask::<K>(self.table(), x, y, g))
     }
 
@@ -105,9 +80,7 @@ impl<'a, K: Kind> Sheet<'a, K> {
     pub fn look(&self, x: u8) -> Result<K::Set, Refusal>
         ensures { LooksAt K.Kind (view self.now) x result }
     {
-        if !self.has(x) {
-            return Err(Refusal::OffSheet);
-        }
-        Ok(self.values(x))
+        self.check(x)?;
+        Ok(table::look::<K>(self.table(), x))
     }
 }

@@ -7,7 +7,7 @@ mod opening;
 mod refusal;
 mod sheet;
 
-pub use entry::Entry;
+pub use entry::{Entry, EntryOf};
 pub use opening::open;
 pub use refusal::Refusal;
 pub use sheet::Sheet;

@@ -1,6 +1,7 @@
 -- What the rules make of tables that read alike, with relations that move alike and sets with the same members.
-use Rattle.std.proofs.Common.{◌≡◌, ℕ, zero, suc, ◌+◌, min, max, Bool, true, false, cond, ◌&&◌, eqb, leb, List, [], ◌∷◌, map, get_or, set, sym, refl, ap, ◌∙◌}
-use lib.Seq.{map-set}
+use Rattle.std.proofs.Common.{◌≡◌, ℕ, ◌+◌, min, max, Bool, true, false, cond, ◌&&◌, eqb, leb, List, get_or, set, sym, refl, ap, ◌∙◌}
+use Rattle.std.proofs.Math.ListN.{get_or-map}
+use Rattle.std.proofs.Math.Seq.{map-set}
 use Rattle.std.proofs.lemmas.Bool.{both_ways}
 use Rattle.kind.specs.declared.Kind.{Ghosts}
 use Rattle.kind.specs.Same.{SameMoves, SameMembers}
@@ -20,19 +21,13 @@ cond_two P true false x y u v e p q = absurd (both_ways false refl e)
 cond_two P false true x y u v e p q = absurd (both_ways true e refl)
 cond_two P false false x y u v e p q = q refl
 
--- an element of a list, or the default, through a function
-getD_through : {X Y : Type 0} (f : X → Y) (xs : List X) (i : ℕ) (d : X) → f (get_or xs i d) ≡ get_or (map f xs) i (f d)
-getD_through f [] i d = refl
-getD_through f (x ∷ xs) zero d = refl
-getD_through f (x ∷ xs) (suc i) d = getD_through f xs i d
-
 module _ {K R S : Type 0} (k : Ghosts K R S) (laws : Lawful k) where
   pub combined_alike : (c1 g c2 d1 h d2 : R) → SameMoves k c1 d1 → SameMoves k g h → SameMoves k c2 d2 → SameMoves k (combined k c1 g c2) (combined k d1 h d2)
   combined_alike c1 g c2 d1 h d2 p q r = comp_alike k laws _ _ _ _ (comp_alike k laws _ _ _ _ (inv_alike k laws c1 d1 p) q) r
 
   module _ (t u : List (Node R S)) (alike : table_read k u ≡ table_read k t) where
     pub node_alike : (x : ℕ) → node_read k (at k u x) ≡ node_read k (at k t x)
-    node_alike x = getD_through (node_read k) u x (fresh k x) ∙ ap (λ ns. get_or ns x (node_read k (fresh k x))) alike ∙ sym (getD_through (node_read k) t x (fresh k x))
+    node_alike x = sym (get_or-map (node_read k) u x (fresh k x)) ∙ ap (λ ns. get_or ns x (node_read k (fresh k x))) alike ∙ get_or-map (node_read k) t x (fresh k x)
 
     rank_alike : (x : ℕ) → (at k u x).rank ≡ (at k t x).rank
     rank_alike x = ap (λ n. n.rank) (node_alike x)

@@ -32,21 +32,21 @@ pub record Along {K R S : Type 0} (k : Ghosts K R S) (t : List (Node R S)) (x d 
   pub carries : Carries k t x (record { reference = now; relation = c })
 
 module _ {K R S : Type 0} (k : Ghosts K R S) (laws : Lawful k) (t : List (Node R S)) (x : ℕ) where
-  pub begins : (c : R) → c ≡ k.unit → Along k t x (length t) x c
-  begins c e = record {
+  pub begins : (d : ℕ) (c : R) → d ≡ length t → c ≡ k.unit → Along k t x d x c
+  begins d c all e = rw all (record {
     ends = refl;
     moves = λ v low. sym (ap (λ g. k.act (k.comp g (walked k t x).relation) v) e ∙ unit_left k laws _ v low);
     carries = λ a keeps. sym (ap (λ g. k.act g (a x)) e ∙ laws.unit_acts _ (keeps.low x));
-  }
+  })
 
-  pub goes_on : (d now : ℕ) (c c' : R) (n : Node R S) → Along k t x d now c → 0 < d → n ≡ at k t now → (n.link ≡ now → ⊥) → c' ≡ k.comp c n.relation → Along k t x (d - 1) n.link c'
-  goes_on d now c c' n along some is apart made =
+  pub goes_on : (d d' now : ℕ) (c c' : R) (n : Node R S) → Along k t x d now c → 0 < d → d' ≡ d - 1 → n ≡ at k t now → (n.link ≡ now → ⊥) → c' ≡ k.comp c n.relation → Along k t x d' n.link c'
+  goes_on d d' now c c' n along some less is apart made =
       let link = ap (λ m. m.link) is in
       let relation = ap (λ m. m.relation) is in
       let leaves : (at k t now).link ≡ now → ⊥ = λ q. apart (link ∙ q) in
       let step = along_goes k t d now some leaves in
       let made_of : c' ≡ k.comp c (at k t now).relation = made ∙ ap (k.comp c) relation in
-      record {
+      rw less (record {
         ends = along.ends ∙ ap (λ w. w.reference) step ∙ ap (λ y. (walk_along k t (d - 1) y).reference) (sym link);
         moves = λ v low.
             along.moves v low ∙ ap (λ w. k.act (k.comp c w.relation) v) step
@@ -56,7 +56,7 @@ module _ {K R S : Type 0} (k : Ghosts K R S) (laws : Lawful k) (t : List (Node R
             along.carries a keeps ∙ ap (k.act c) (keeps.kept now (linked_on k t now leaves))
             ∙ sym (laws.comp_acts c (at k t now).relation _ (keeps.low _))
             ∙ (λ i. k.act (sym made_of i) (a (sym link i)));
-      }
+      })
 
   -- where there is no link to follow, or none left
   done : (d now : ℕ) (c : R) → Along k t x d now c → walk_along k t d now ≡ here k now → route_read k (record { reference = now; relation = c }) ≡ route_read k (walked k t x)

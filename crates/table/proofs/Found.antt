@@ -1,11 +1,13 @@
 -- What is found from routes that read like the walks of the rules, and what is stored of it.
-use Rattle.std.proofs.Common.{◌≡◌, ℕ, false, List, sym, refl, ap, ◌∙◌}
+use Rattle.std.proofs.Common.{◌≡◌, ℕ, false, cond, List, sym, refl, ap, ◌∙◌}
 use Rattle.kind.specs.declared.Kind.{Ghosts}
 use Rattle.kind.specs.Same.{SameMoves, SameMembers}
 use Rattle.kind.proofs.Lawful.{Lawful}
 use Rattle.kind.proofs.Alike.{meet_alike, shift_alike, inv_alike, none_alike}
 use Rattle.table.specs.declared.node.Node.{Node}
 use Rattle.table.specs.declared.notes.Meeting.{Meeting}
+use Rattle.table.specs.declared.questions.Answer.{Answer}
+use Rattle.table.specs.declared.questions.Answer.TheVariants.{Holds, Barred, Open}
 use Rattle.table.specs.declared.sightings.Narrowing.{Narrowing}
 use Rattle.table.specs.declared.walks.Route.{Route}
 use Rattle.table.specs.Table.{at, settled}
@@ -13,7 +15,7 @@ use Rattle.table.specs.Words.{table_read, route_read}
 use Rattle.table.specs.Walk.{walked}
 use Rattle.table.specs.Note.{combined, empty, left, between, meeting, joined, Meets}
 use Rattle.table.specs.See.{narrowing, Narrows}
-use Rattle.table.specs.Ask.{asked_at, asked}
+use Rattle.table.specs.Ask.{sure, asked_at, asked}
 use Rattle.table.specs.Look.{looked}
 use Rattle.table.proofs.Alike.{combined_alike, left_alike, asked_alike, joined_alike, settled_alike}
 
@@ -29,11 +31,6 @@ module _ {K R S : Type 0} (k : Ghosts K R S) (laws : Lawful k) (t : List (Node R
 
   pub between_found : (w z : Route R) (x y : ℕ) (g h : R) → Found w x → Found z y → k.word h ≡ k.word (combined k w.relation g z.relation) → k.word h ≡ k.word (between k t x y g)
   between_found w z x y g h p q e = e ∙ laws.word_told _ _ (combined_alike k laws _ _ _ _ _ _ (relation_found w x p) (λ v low. refl) (relation_found z y q))
-
-  pub asked_found : (w z : Route R) (x y : ℕ) (g h : R) → Found w x → Found z y → k.word h ≡ k.word (combined k w.relation g z.relation) → asked_at k t w.reference z.reference h ≡ asked k t x y g
-  asked_found w z x y g h p q e =
-      (λ i. asked_at k t (reference_found w x p i) (reference_found z y q i) h)
-      ∙ asked_alike k laws t t refl _ _ h (between k t x y g) (laws.word_tells _ _ (between_found w z x y g h p q e))
 
   -- the set of the reference
   held_found : (w : Route R) (x : ℕ) (n : Node R S) → Found w x → n ≡ at k t w.reference → n.set ≡ (at k t (walked k t x).reference).set
@@ -59,6 +56,13 @@ module _ {K R S : Type 0} (k : Ghosts K R S) (laws : Lawful k) (t : List (Node R
         ap (λ s. k.has s v) meets.left_is
         ∙ left_alike k laws t t refl m.first m.second m.by (between k t x y g) by_met v low
         ∙ (λ i. k.has (left k t (meets.first i) (meets.second i) (between k t x y g)) v)
+
+    -- what a question is answered from it
+    pub told_met : (a : Answer) → a ≡ cond (empty k m.left) Barred (cond (sure k t m.first m.second m.by) Holds Open) → a ≡ asked k t x y g
+    told_met a e =
+        e ∙ (λ i. cond (empty k (meets.left_is i)) Barred (cond (sure k t m.first m.second m.by) Holds Open))
+        ∙ (λ i. asked_at k t (meets.first i) (meets.second i) m.by)
+        ∙ asked_alike k laws t t refl _ _ m.by (between k t x y g) by_met
 
     pub empty_met : empty k m.left ≡ empty k (meeting k t x y g).left
     empty_met = none_alike k laws _ _ left_met

@@ -1,5 +1,5 @@
 -- A table made new, point by point.
-use Rattle.std.proofs.Common.{◌≡◌, ℕ, zero, suc, ◌+◌, ◌<◌, min, List, [], ◌∷◌, ◌++◌, length, take, drop, set, sym, refl, ap, ◌∙◌, ⊎_elim, append_assoc, add-zero, zero-add, arith}
+use Rattle.std.proofs.Common.{◌≡◌, ℕ, zero, suc, ◌+◌, ◌<◌, min, List, [], ◌∷◌, ◌++◌, length, length-take, take, drop, set, sym, refl, ap, ◌∙◌, ⊎_elim, append_assoc, add-zero, zero-add, arith}
 use Rattle.std.proofs.lemmas.List.{append-nil, set_at, take_all, take_at, drop_more, drop_all, drop_at}
 use Rattle.std.proofs.lemmas.Bool.{cases_lt}
 use Rattle.kind.specs.declared.Kind.{Ghosts}
@@ -35,11 +35,13 @@ module _ {K R S : Type 0} (k : Ghosts K R S) where
     unfolding made
     made_length = fresh_length 0 (min (length t) n)
 
-    pub renewed_all : (u : List (Node R S)) (i : ℕ) → u ≡ fresh_from k 0 i ++ drop i t → i ≡ min (length t) n → u ≡ fresh_from k 0 (min (length t) n) ++ drop n t
-    renewed_all u i e is =
-        e ∙ (λ j. fresh_from k 0 (is j) ++ drop i t)
+    pub renewed_all : (u : List (Node R S)) (i e : ℕ) → u ≡ fresh_from k 0 i ++ drop i (take e t) → i ≡ e → e ≡ min (length t) n → u ++ drop e t ≡ fresh_from k 0 (min (length t) n) ++ drop n t
+    renewed_all u i e is same most =
+        let none : drop i (take e t) ≡ [] = drop_all i (take e t) (simp length-take (omega arith)) in
+        ap (λ v. v ++ drop e t) (is ∙ ap (λ r. fresh_from k 0 i ++ r) none ∙ append-nil (fresh_from k 0 i))
+        ∙ ap (λ m. fresh_from k 0 m ++ drop e t) (same ∙ most)
         ∙ ap (λ r. fresh_from k 0 (min (length t) n) ++ r)
-        (⊎_elim (λ h. drop_all i t (omega arith) ∙ sym (drop_all n t (omega arith))) (λ h. ap (λ m. drop m t) (let q : i ≡ n = omega arith in q)) (cases_lt (length t) n))
+        (⊎_elim (λ h. drop_all e t (omega arith) ∙ sym (drop_all n t (omega arith))) (λ h. ap (λ m. drop m t) (let q : e ≡ n = omega arith in q)) (cases_lt (length t) n))
 
     pub fresh_front : take n (fresh_from k 0 (min (length t) n) ++ drop n t) ≡ fresh_from k 0 (min (length t) n)
     unfolding made

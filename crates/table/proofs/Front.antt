@@ -1,6 +1,6 @@
 -- What the rules make of the front of a longer list of nodes.
 use Rattle.std.proofs.Common.{◌≡◌, ℕ, ◌+◌, ◌<◌, min, max, eqb, leb, List, take, drop, set, sym, refl, ap, ◌∙◌, drop-set-lt}
-use lib.Seq.{take-set-lt}
+use Rattle.std.proofs.Math.Seq.{take-set-lt}
 use Rattle.std.proofs.lemmas.List.{get_or-take}
 use Rattle.std.proofs.lemmas.Bool.{cond_both}
 use Rattle.kind.specs.declared.Kind.{Ghosts}

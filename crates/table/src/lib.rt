@@ -13,7 +13,7 @@ mod walks;
 
 pub use combination::combine;
 pub use looks::look;
-pub use node::Node;
+pub use node::{Node, NodeOf};
 pub use notes::{Meeting, is_empty, join, meet};
 pub use questions::{Answer, ask};
 pub use sightings::{Narrowing, narrow};

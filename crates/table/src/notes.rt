@@ -1,15 +1,15 @@
 // What a note finds at the references of its points, and what it makes of them.
 ghost use Rattle.std.specs.Prelude.{◌≡◌};
-ghost use Rattle.table.specs.Note.{empty, left, hung, joined, Meets};
+ghost use Rattle.table.specs.Note.{empty, hung, joined, Meets};
 
 use crate::combination::combine;
-use crate::node::Node;
+use crate::node::{Node, NodeOf};
 use crate::storage::{load, settle, store};
 use crate::walks::walk;
 use kind::Kind;
 
 // Two references, the relation that takes the second's value to the first's, and the set left to the first.
-#[derive(Clone, Copy)]
+#[derive(Clone, Copy, PartialEq, Eq, Debug)]
 pub struct Meeting<R, S> {
     pub first: u8,
     pub second: u8,
@@ -23,25 +23,9 @@ pub fn is_empty<K: Kind>(s: K::Set) -> bool
     K::tally(s) == 0
 }
 
-pub(crate) fn left_to_first<K: Kind>(
-    nodes: &[Node<K::Relation, K::Set>],
-    r1: u8,
-    r2: u8,
-    h: K::Relation,
-) -> K::Set
-    ensures { result ≡ left K.Kind nodes.now r1 r2 h }
-{
-    let first = load::<K>(nodes, r1);
-    if r1 == r2 {
-        return K::common(first.set, K::still(h));
-    }
-    let second = load::<K>(nodes, r2);
-    K::common(first.set, K::moved(h, second.set))
-}
-
-// Where x = g·y is noted.
+// Where x = g·y is noted. Three arguments, here and in `ask`, as in the calls on a sheet.
 pub fn meet<K: Kind>(
-    nodes: &[Node<K::Relation, K::Set>],
+    nodes: &[NodeOf<K>],
     x: u8,
     y: u8,
     g: K::Relation,
@@ -51,18 +35,22 @@ pub fn meet<K: Kind>(
     let first = walk::<K>(nodes, x);
     let second = walk::<K>(nodes, y);
     let by = combine::<K>(first.relation, g, second.relation);
-    let left = left_to_first::<K>(nodes, first.reference, second.reference, by);
+    let allowed = if first.reference == second.reference {
+        K::still(by)
+    } else {
+        K::moved(by, load::<K>(nodes, second.reference).set)
+    };
     Meeting {
         first: first.reference,
         second: second.reference,
         by,
-        left,
+        left: K::common(load::<K>(nodes, first.reference).set, allowed),
     }
 }
 
 // Links the reference `lower` to the reference `upper`, which gets a rank and a set.
 fn hang<K: Kind>(
-    nodes: &mut [Node<K::Relation, K::Set>],
+    nodes: &mut [NodeOf<K>],
     lower: u8,
     upper: u8,
     g: K::Relation,
@@ -86,7 +74,7 @@ fn hang<K: Kind>(
 }
 
 // Stores what a meeting has come to.
-pub fn join<K: Kind>(nodes: &mut [Node<K::Relation, K::Set>], m: Meeting<K::Relation, K::Set>)
+pub fn join<K: Kind>(nodes: &mut [NodeOf<K>], m: Meeting<K::Relation, K::Set>)
     ensures { nodes.new ≡ joined K.Kind nodes.old m }
 {
     if m.first == m.second {
@@ -99,14 +87,8 @@ pub fn join<K: Kind>(nodes: &mut [Node<K::Relation, K::Set>], m: Meeting<K::Rela
     if first >= second {
         let rank = first.max(second.saturating_add(1));
         hang::<K>(nodes, m.second, m.first, back, rank, m.left);
-        return;
+    } else {
+        let left = K::moved(back, m.left);
+        hang::<K>(nodes, m.first, m.second, m.by, second, left);
     }
-    hang::<K>(
-        nodes,
-        m.first,
-        m.second,
-        m.by,
-        second,
-        K::moved(back, m.left),
-    );
 }

@@ -1,13 +1,12 @@
 // Questions.
-ghost use Rattle.std.specs.Prelude.{◌≡◌};
-ghost use Rattle.table.specs.Ask.{asked, asked_at, sure};
+ghost use Rattle.std.specs.Prelude.{◌≡◌, Some};
+ghost use Rattle.table.specs.Ask.{answer_word, asked, sure};
 
-use crate::combination::combine;
-use crate::node::Node;
-use crate::notes::{is_empty, left_to_first};
+use crate::node::NodeOf;
+use crate::notes::{Meeting, is_empty, meet};
 use crate::storage::load;
-use crate::walks::walk;
 use kind::Kind;
+use std::fmt;
 
 // What follows of a relation between two points: that it holds, that it cannot, or neither.
 #[derive(Clone, Copy, PartialEq, Eq, Debug)]
@@ -17,35 +16,41 @@ pub enum Answer {
     Open,
 }
 
-fn is_sure<K: Kind>(nodes: &[Node<K::Relation, K::Set>], r1: u8, r2: u8, h: K::Relation) -> bool
-    ensures { result ≡ sure K.Kind nodes.now r1 r2 h }
-{
-    let first = load::<K>(nodes, r1);
-    if r1 == r2 {
-        return K::within(first.set, K::still(h));
+impl fmt::Display for Answer {
+    ghost output = { λ answer. Some (answer_word answer) };
+
+    fn fmt<W: fmt::Write>(&self, f: &mut fmt::Formatter<W>) -> fmt::Result {
+        f.write_str(match self {
+            Answer::Holds => "holds",
+            Answer::Barred => "barred",
+            Answer::Open => "open",
+        })
     }
-    let second = load::<K>(nodes, r2);
-    K::tally(first.set) == 1 && K::tally(second.set) == 1
 }
 
-fn ask_at<K: Kind>(nodes: &[Node<K::Relation, K::Set>], r1: u8, r2: u8, h: K::Relation) -> Answer
-    ensures { result ≡ asked_at K.Kind nodes.now r1 r2 h }
+// Whether a meeting that is not barred is certain.
+fn is_sure<K: Kind>(nodes: &[NodeOf<K>], m: Meeting<K::Relation, K::Set>) -> bool
+    ensures { result ≡ sure K.Kind nodes.now m.first m.second m.by }
 {
-    if is_empty::<K>(left_to_first::<K>(nodes, r1, r2, h)) {
-        Answer::Barred
-    } else if is_sure::<K>(nodes, r1, r2, h) {
-        Answer::Holds
+    let first = load::<K>(nodes, m.first).set;
+    if m.first == m.second {
+        K::within(first, K::still(m.by))
     } else {
-        Answer::Open
+        let second = load::<K>(nodes, m.second).set;
+        K::tally(first) == 1 && K::tally(second) == 1
     }
 }
 
 // Whether x = g·y.
-pub fn ask<K: Kind>(nodes: &[Node<K::Relation, K::Set>], x: u8, y: u8, g: K::Relation) -> Answer
+pub fn ask<K: Kind>(nodes: &[NodeOf<K>], x: u8, y: u8, g: K::Relation) -> Answer
     ensures { result ≡ asked K.Kind nodes.now x y g }
 {
-    let first = walk::<K>(nodes, x);
-    let second = walk::<K>(nodes, y);
-    let h = combine::<K>(first.relation, g, second.relation);
-    ask_at::<K>(nodes, first.reference, second.reference, h)
+    let meeting = meet::<K>(nodes, x, y, g);
+    if is_empty::<K>(meeting.left) {
+        Answer::Barred
+    } else if is_sure::<K>(nodes, meeting) {
+        Answer::Holds
+    } else {
+        Answer::Open
+    }
 }

@@ -2,10 +2,9 @@
 #![tactic(auto)]
 
 ghost use Rattle.std.specs.Prelude.{◌≡◌};
-ghost use Rattle.words.specs.Numbers.{number_named};
 ghost use Rattle.picks.specs.declared.Pick.TheVariants.{Any};
 ghost use Rattle.picks.specs.Picks.{pick_has, pick_meet, pick_shift, pick_inside, pick_count, pick_label, pick_labelled};
-ghost use Rattle.temps.specs.Temps.{temp_act, temp_inv, temp_fixed, temp_spelt, temp_word, if_above, if_below, temp_named};
+ghost use Rattle.temps.specs.Temps.{temp_act, temp_inv, temp_fixed, temp_spelt, temp_word, temp_named};
 ghost use Rattle.std.proofs.Common.{lit≤, rules};
 ghost use Rattle.picks.proofs.PickLaws.{pick_all_inside, pick_count_tells};
 ghost use Rattle.temps.specs.TempLaws.{temp_word_length, temp_word_plain, temp_word_tells, temp_word_told, temp_named_word, temp_word_named};
@@ -17,43 +16,27 @@ use picks::Pick;
 use words::{Word, read_number};
 
 // The greatest value.
-const LAST: u32 = 4294967295;
-
-// The set of every value.
-const EVERY: Pick = Pick::Any;
+const LAST: u32 = u32::MAX;
 
 // The values from here on are written below zero.
-const HALF: u32 = 2147483648;
-
-// A number that is not below zero.
-fn read_above(field: &[u8]) -> Option<u32>
-    ensures { result ≡ if_above (number_named field.now) }
-{
-    match read_number(field) {
-        Some(n) if n < HALF => Some(n),
-        _ => None,
-    }
-}
-
-// A number below zero, of which the digits follow the minus sign.
-fn read_below(digits: &[u8]) -> Option<u32>
-    ensures { result ≡ if_below (number_named digits.now) }
-{
-    match read_number(digits) {
-        Some(n) if 0 < n && n <= HALF => Some(n.wrapping_neg()),
-        _ => None,
-    }
-}
+const HALF: u32 = 1 << 31;
 
 // The number that a field writes, from -2147483648 to 2147483647.
 fn read_offset(field: &[u8]) -> Option<u32>
     ensures { result ≡ temp_named field.now }
 {
-    if !field.is_empty() && field[0] == b'-' {
-        read_below(&field[1..])
-    } else {
-        read_above(field)
+    match field {
+        [b'-', digits @ ..] => read_number(digits)
+            .filter(|n| (1..=HALF).contains(n))
+            .map(u32::wrapping_neg),
+        _ => read_number(field).filter(|n| *n < HALF),
     }
+}
+
+fn offset_word(d: u32) -> Word
+    ensures { result ≡ temp_word d }
+{
+    Word::signed(d.cast_signed())
 }
 
 pub struct Temps;
@@ -64,6 +47,8 @@ impl Kind for Temps {
     type Set = Pick;
 
     const W: usize = 11;
+
+    ghost W = { 11 };
 
     ghost span = { 4294967296 };
 
@@ -92,8 +77,6 @@ impl Kind for Temps {
     ghost word = { temp_word };
 
     ghost label = { pick_label 4294967296 temp_spelt };
-
-    ghost wide = { 11 };
 
     ghost named = { temp_named };
 
@@ -151,10 +134,6 @@ impl Kind for Temps {
 
     ghost label_labelled = { pick_label_labelled temp_spelling };
 
-    fn width() -> usize {
-        Self::W
-    }
-
     fn identity() -> u32 {
         0
     }
@@ -167,8 +146,9 @@ impl Kind for Temps {
         g.wrapping_neg()
     }
 
+    // As for drums, each a call of `Pick`.
     fn all() -> Pick {
-        EVERY
+        Pick::Any
     }
 
     fn common(s: Pick, t: Pick) -> Pick {
@@ -176,14 +156,11 @@ impl Kind for Temps {
     }
 
     fn moved(g: u32, s: Pick) -> Pick {
-        match s {
-            Pick::One(v) => Pick::One(g.wrapping_add(v)),
-            _ => s,
-        }
+        s.map(|v| g.wrapping_add(v))
     }
 
     fn still(g: u32) -> Pick {
-        if g == 0 { EVERY } else { Pick::Nothing }
+        if g == 0 { Pick::Any } else { Pick::Nothing }
     }
 
     fn within(s: Pick, t: Pick) -> bool {
@@ -203,14 +180,10 @@ impl Kind for Temps {
     }
 
     fn relation_word(g: u32) -> Word {
-        Word::signed(g.cast_signed())
+        offset_word(g)
     }
 
     fn set_word(s: Pick) -> Word {
-        match s {
-            Pick::Nothing => Word::of(b"none"),
-            Pick::One(v) => Self::relation_word(v),
-            Pick::Any => Word::of(b"any"),
-        }
+        s.word(offset_word)
     }
 }

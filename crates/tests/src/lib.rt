@@ -7,154 +7,150 @@ mod two;
 mod tests {
     use crate::two::Two;
     use book::{Book, BookFault, Memory, Reply, print_reply};
-    use conductors::{Conductors, Orders};
+    use conductors::Orders;
     use drums::{Drum, Drums};
     use kind::Kind;
     use layers::FarEnd;
     use leads::{Ends, Leads, Turn};
     use lines::LineFault;
-    use picks::Pick;
     use sheet::{Entry, Refusal};
     use std::test::Fail;
     use table::{Answer, new_node};
 
-    // What a new book prints for a line, by the fault's number; 0 where it is not refused.
-    fn refusal(line: &[u8]) -> u8 {
+    // The number by which a new book refuses a line, if it refuses it.
+    fn refusal(line: &[u8]) -> Option<u8> {
         let mut memory = Memory::new();
         let mut book = Book::open(&mut memory);
-        match book.enter(line) {
-            Ok(_) => 0,
-            Err(fault) => fault.number(),
-        }
+        book.enter(line).err().map(|fault| fault.number())
     }
 
     #[test]
     fn points(rt: HostRuntime) {
-        assert_eq!(rt; refusal(b"leads\tnote\t63\t0\tsame"), 0);
-        assert_eq!(rt; refusal(b"leads\tnote\t64\t0\tsame"), 5);
-        assert_eq!(rt; refusal(b"leads\tnote\t0\t64\tsame"), 5);
-        assert_eq!(rt; refusal(b"leads\tsee\t255\tplus"), 5);
-        assert_eq!(rt; refusal(b"leads\tsee\t256\tplus"), 3);
-        assert_eq!(rt; refusal(b"leads\tsee\t00\tplus"), 3);
-        assert_eq!(rt; refusal(b"leads\tsee\t+1\tplus"), 3);
-        assert_eq!(rt; refusal(b"leads\tsee\t\tplus"), 3);
+        assert_eq!(rt; refusal(b"leads\tnote\t63\t0\tsame"), None);
+        assert_eq!(rt; refusal(b"leads\tnote\t64\t0\tsame"), Some(5));
+        assert_eq!(rt; refusal(b"leads\tnote\t0\t64\tsame"), Some(5));
+        assert_eq!(rt; refusal(b"leads\tsee\t255\tplus"), Some(5));
+        assert_eq!(rt; refusal(b"leads\tsee\t256\tplus"), Some(3));
+        assert_eq!(rt; refusal(b"leads\tsee\t00\tplus"), Some(3));
+        assert_eq!(rt; refusal(b"leads\tsee\t+1\tplus"), Some(3));
+        assert_eq!(rt; refusal(b"leads\tsee\t\tplus"), Some(3));
     }
 
     #[test]
     fn shapes(rt: HostRuntime) {
-        assert_eq!(rt; refusal(b""), 2);
-        assert_eq!(rt; refusal(b"leads"), 2);
-        assert_eq!(rt; refusal(b"leads\tsee\t0\tplus\t"), 2);
-        assert_eq!(rt; refusal(b"leads\tnote\t0\t1"), 2);
-        assert_eq!(rt; refusal(b"leads\ttell\t0\t1\tsame"), 2);
-        assert_eq!(rt; refusal(b"wires\tnote\t0\t1\tsame"), 2);
-        assert_eq!(rt; refusal(b"leads see 0 plus"), 2);
+        assert_eq!(rt; refusal(b""), Some(2));
+        assert_eq!(rt; refusal(b"leads"), Some(2));
+        assert_eq!(rt; refusal(b"leads\tsee\t0\tplus\t"), Some(2));
+        assert_eq!(rt; refusal(b"leads\tnote\t0\t1"), Some(2));
+        assert_eq!(rt; refusal(b"leads\ttell\t0\t1\tsame"), Some(2));
+        assert_eq!(rt; refusal(b"wires\tnote\t0\t1\tsame"), Some(2));
+        assert_eq!(rt; refusal(b"leads see 0 plus"), Some(2));
     }
 
     #[test]
     fn leads_words(rt: HostRuntime) {
-        assert_eq!(rt; refusal(b"leads\tnote\t0\t1\tsame"), 0);
-        assert_eq!(rt; refusal(b"leads\tnote\t0\t1\tcrossed"), 0);
-        assert_eq!(rt; refusal(b"leads\tnote\t0\t1\tSame"), 4);
-        assert_eq!(rt; refusal(b"leads\tnote\t0\t1\tplus"), 4);
-        assert_eq!(rt; refusal(b"leads\tsee\t0\tplus"), 0);
-        assert_eq!(rt; refusal(b"leads\tsee\t0\tminus"), 0);
-        assert_eq!(rt; refusal(b"leads\tsee\t0\tany"), 0);
-        assert_eq!(rt; refusal(b"leads\tsee\t0\tnone"), 6);
-        assert_eq!(rt; refusal(b"leads\tsee\t0\tcrossed"), 4);
-        assert_eq!(rt; refusal(b"leads\tsee\t64\tminu"), 4);
-        assert_eq!(rt; refusal(b"leads\tsee\t256\tminu"), 3);
+        assert_eq!(rt; refusal(b"leads\tnote\t0\t1\tsame"), None);
+        assert_eq!(rt; refusal(b"leads\tnote\t0\t1\tcrossed"), None);
+        assert_eq!(rt; refusal(b"leads\tnote\t0\t1\tSame"), Some(4));
+        assert_eq!(rt; refusal(b"leads\tnote\t0\t1\tplus"), Some(4));
+        assert_eq!(rt; refusal(b"leads\tsee\t0\tplus"), None);
+        assert_eq!(rt; refusal(b"leads\tsee\t0\tminus"), None);
+        assert_eq!(rt; refusal(b"leads\tsee\t0\tany"), None);
+        assert_eq!(rt; refusal(b"leads\tsee\t0\tnone"), Some(6));
+        assert_eq!(rt; refusal(b"leads\tsee\t0\tcrossed"), Some(4));
+        assert_eq!(rt; refusal(b"leads\tsee\t64\tminu"), Some(4));
+        assert_eq!(rt; refusal(b"leads\tsee\t256\tminu"), Some(3));
     }
 
     #[test]
     fn phases_relations(rt: HostRuntime) {
-        assert_eq!(rt; refusal(b"phases\tnote\t0\t1\t123"), 0);
-        assert_eq!(rt; refusal(b"phases\tnote\t0\t1\t132"), 0);
-        assert_eq!(rt; refusal(b"phases\tnote\t0\t1\t213"), 0);
-        assert_eq!(rt; refusal(b"phases\tnote\t0\t1\t231"), 0);
-        assert_eq!(rt; refusal(b"phases\tnote\t0\t1\t312"), 0);
-        assert_eq!(rt; refusal(b"phases\tnote\t0\t1\t321"), 0);
-        assert_eq!(rt; refusal(b"phases\tnote\t0\t1\t112"), 4);
-        assert_eq!(rt; refusal(b"phases\tnote\t0\t1\t012"), 4);
-        assert_eq!(rt; refusal(b"phases\tnote\t0\t1\t214"), 4);
-        assert_eq!(rt; refusal(b"phases\tnote\t0\t1\t12"), 4);
-        assert_eq!(rt; refusal(b"phases\tnote\t0\t1\t1234"), 4);
-        assert_eq!(rt; refusal(b"phases\tnote\t0\t1\t"), 4);
-        assert_eq!(rt; refusal(b"phases\tnote\t0\t1\tany"), 4);
+        assert_eq!(rt; refusal(b"phases\tnote\t0\t1\t123"), None);
+        assert_eq!(rt; refusal(b"phases\tnote\t0\t1\t132"), None);
+        assert_eq!(rt; refusal(b"phases\tnote\t0\t1\t213"), None);
+        assert_eq!(rt; refusal(b"phases\tnote\t0\t1\t231"), None);
+        assert_eq!(rt; refusal(b"phases\tnote\t0\t1\t312"), None);
+        assert_eq!(rt; refusal(b"phases\tnote\t0\t1\t321"), None);
+        assert_eq!(rt; refusal(b"phases\tnote\t0\t1\t112"), Some(4));
+        assert_eq!(rt; refusal(b"phases\tnote\t0\t1\t012"), Some(4));
+        assert_eq!(rt; refusal(b"phases\tnote\t0\t1\t214"), Some(4));
+        assert_eq!(rt; refusal(b"phases\tnote\t0\t1\t12"), Some(4));
+        assert_eq!(rt; refusal(b"phases\tnote\t0\t1\t1234"), Some(4));
+        assert_eq!(rt; refusal(b"phases\tnote\t0\t1\t"), Some(4));
+        assert_eq!(rt; refusal(b"phases\tnote\t0\t1\tany"), Some(4));
     }
 
     #[test]
     fn phases_sets(rt: HostRuntime) {
-        assert_eq!(rt; refusal(b"phases\tsee\t0\t1"), 0);
-        assert_eq!(rt; refusal(b"phases\tsee\t0\t2"), 0);
-        assert_eq!(rt; refusal(b"phases\tsee\t0\t3"), 0);
-        assert_eq!(rt; refusal(b"phases\tsee\t0\t12"), 0);
-        assert_eq!(rt; refusal(b"phases\tsee\t0\t13"), 0);
-        assert_eq!(rt; refusal(b"phases\tsee\t0\t23"), 0);
-        assert_eq!(rt; refusal(b"phases\tsee\t0\tany"), 0);
-        assert_eq!(rt; refusal(b"phases\tsee\t0\tnone"), 6);
-        assert_eq!(rt; refusal(b"phases\tsee\t0\t123"), 4);
-        assert_eq!(rt; refusal(b"phases\tsee\t0\t21"), 4);
-        assert_eq!(rt; refusal(b"phases\tsee\t0\t11"), 4);
-        assert_eq!(rt; refusal(b"phases\tsee\t0\t4"), 4);
-        assert_eq!(rt; refusal(b"phases\tsee\t0\t"), 4);
-        assert_eq!(rt; refusal(b"phases\tsee\t0\ta"), 4);
+        assert_eq!(rt; refusal(b"phases\tsee\t0\t1"), None);
+        assert_eq!(rt; refusal(b"phases\tsee\t0\t2"), None);
+        assert_eq!(rt; refusal(b"phases\tsee\t0\t3"), None);
+        assert_eq!(rt; refusal(b"phases\tsee\t0\t12"), None);
+        assert_eq!(rt; refusal(b"phases\tsee\t0\t13"), None);
+        assert_eq!(rt; refusal(b"phases\tsee\t0\t23"), None);
+        assert_eq!(rt; refusal(b"phases\tsee\t0\tany"), None);
+        assert_eq!(rt; refusal(b"phases\tsee\t0\tnone"), Some(6));
+        assert_eq!(rt; refusal(b"phases\tsee\t0\t123"), Some(4));
+        assert_eq!(rt; refusal(b"phases\tsee\t0\t21"), Some(4));
+        assert_eq!(rt; refusal(b"phases\tsee\t0\t11"), Some(4));
+        assert_eq!(rt; refusal(b"phases\tsee\t0\t4"), Some(4));
+        assert_eq!(rt; refusal(b"phases\tsee\t0\t"), Some(4));
+        assert_eq!(rt; refusal(b"phases\tsee\t0\ta"), Some(4));
     }
 
     #[test]
     fn drums_relations(rt: HostRuntime) {
-        assert_eq!(rt; refusal(b"drums\tnote\t0\t1\t1|0"), 0);
-        assert_eq!(rt; refusal(b"drums\tnote\t0\t1\t250|250"), 0);
-        assert_eq!(rt; refusal(b"drums\tnote\t0\t1\t0|4"), 4);
-        assert_eq!(rt; refusal(b"drums\tnote\t0\t1\t251|0"), 4);
-        assert_eq!(rt; refusal(b"drums\tnote\t0\t1\t1|251"), 4);
-        assert_eq!(rt; refusal(b"drums\tnote\t0\t1\t01|2"), 4);
-        assert_eq!(rt; refusal(b"drums\tnote\t0\t1\t1|02"), 4);
-        assert_eq!(rt; refusal(b"drums\tnote\t0\t1\t1|"), 4);
-        assert_eq!(rt; refusal(b"drums\tnote\t0\t1\t|1"), 4);
-        assert_eq!(rt; refusal(b"drums\tnote\t0\t1\t1"), 4);
-        assert_eq!(rt; refusal(b"drums\tnote\t0\t1\t1|2|3"), 4);
-        assert_eq!(rt; refusal(b"drums\tnote\t0\t1\t-1|2"), 4);
-        assert_eq!(rt; refusal(b"drums\tnote\t0\t1\t4294967297|2"), 4);
+        assert_eq!(rt; refusal(b"drums\tnote\t0\t1\t1|0"), None);
+        assert_eq!(rt; refusal(b"drums\tnote\t0\t1\t250|250"), None);
+        assert_eq!(rt; refusal(b"drums\tnote\t0\t1\t0|4"), Some(4));
+        assert_eq!(rt; refusal(b"drums\tnote\t0\t1\t251|0"), Some(4));
+        assert_eq!(rt; refusal(b"drums\tnote\t0\t1\t1|251"), Some(4));
+        assert_eq!(rt; refusal(b"drums\tnote\t0\t1\t01|2"), Some(4));
+        assert_eq!(rt; refusal(b"drums\tnote\t0\t1\t1|02"), Some(4));
+        assert_eq!(rt; refusal(b"drums\tnote\t0\t1\t1|"), Some(4));
+        assert_eq!(rt; refusal(b"drums\tnote\t0\t1\t|1"), Some(4));
+        assert_eq!(rt; refusal(b"drums\tnote\t0\t1\t1"), Some(4));
+        assert_eq!(rt; refusal(b"drums\tnote\t0\t1\t1|2|3"), Some(4));
+        assert_eq!(rt; refusal(b"drums\tnote\t0\t1\t-1|2"), Some(4));
+        assert_eq!(rt; refusal(b"drums\tnote\t0\t1\t4294967297|2"), Some(4));
     }
 
     #[test]
     fn drums_sets(rt: HostRuntime) {
-        assert_eq!(rt; refusal(b"drums\tsee\t0\t0"), 0);
-        assert_eq!(rt; refusal(b"drums\tsee\t0\t250"), 0);
-        assert_eq!(rt; refusal(b"drums\tsee\t0\tany"), 0);
-        assert_eq!(rt; refusal(b"drums\tsee\t0\tnone"), 6);
-        assert_eq!(rt; refusal(b"drums\tsee\t0\t251"), 4);
-        assert_eq!(rt; refusal(b"drums\tsee\t0\t00"), 4);
-        assert_eq!(rt; refusal(b"drums\tsee\t0\t-1"), 4);
-        assert_eq!(rt; refusal(b"drums\tsee\t0\t1|0"), 4);
+        assert_eq!(rt; refusal(b"drums\tsee\t0\t0"), None);
+        assert_eq!(rt; refusal(b"drums\tsee\t0\t250"), None);
+        assert_eq!(rt; refusal(b"drums\tsee\t0\tany"), None);
+        assert_eq!(rt; refusal(b"drums\tsee\t0\tnone"), Some(6));
+        assert_eq!(rt; refusal(b"drums\tsee\t0\t251"), Some(4));
+        assert_eq!(rt; refusal(b"drums\tsee\t0\t00"), Some(4));
+        assert_eq!(rt; refusal(b"drums\tsee\t0\t-1"), Some(4));
+        assert_eq!(rt; refusal(b"drums\tsee\t0\t1|0"), Some(4));
     }
 
     #[test]
     fn temps_words(rt: HostRuntime) {
-        assert_eq!(rt; refusal(b"temps\tnote\t0\t1\t0"), 0);
-        assert_eq!(rt; refusal(b"temps\tnote\t0\t1\t2147483647"), 0);
-        assert_eq!(rt; refusal(b"temps\tnote\t0\t1\t-2147483648"), 0);
-        assert_eq!(rt; refusal(b"temps\tnote\t0\t1\t2147483648"), 4);
-        assert_eq!(rt; refusal(b"temps\tnote\t0\t1\t-2147483649"), 4);
-        assert_eq!(rt; refusal(b"temps\tnote\t0\t1\t-0"), 4);
-        assert_eq!(rt; refusal(b"temps\tnote\t0\t1\t+5"), 4);
-        assert_eq!(rt; refusal(b"temps\tnote\t0\t1\t05"), 4);
-        assert_eq!(rt; refusal(b"temps\tnote\t0\t1\t-05"), 4);
-        assert_eq!(rt; refusal(b"temps\tnote\t0\t1\t--5"), 4);
-        assert_eq!(rt; refusal(b"temps\tnote\t0\t1\t-"), 4);
-        assert_eq!(rt; refusal(b"temps\tnote\t0\t1\t"), 4);
-        assert_eq!(rt; refusal(b"temps\tsee\t0\t-1"), 0);
-        assert_eq!(rt; refusal(b"temps\tsee\t0\tany"), 0);
-        assert_eq!(rt; refusal(b"temps\tsee\t0\tnone"), 6);
-        assert_eq!(rt; refusal(b"temps\tsee\t0\t4294967295"), 4);
+        assert_eq!(rt; refusal(b"temps\tnote\t0\t1\t0"), None);
+        assert_eq!(rt; refusal(b"temps\tnote\t0\t1\t2147483647"), None);
+        assert_eq!(rt; refusal(b"temps\tnote\t0\t1\t-2147483648"), None);
+        assert_eq!(rt; refusal(b"temps\tnote\t0\t1\t2147483648"), Some(4));
+        assert_eq!(rt; refusal(b"temps\tnote\t0\t1\t-2147483649"), Some(4));
+        assert_eq!(rt; refusal(b"temps\tnote\t0\t1\t-0"), Some(4));
+        assert_eq!(rt; refusal(b"temps\tnote\t0\t1\t+5"), Some(4));
+        assert_eq!(rt; refusal(b"temps\tnote\t0\t1\t05"), Some(4));
+        assert_eq!(rt; refusal(b"temps\tnote\t0\t1\t-05"), Some(4));
+        assert_eq!(rt; refusal(b"temps\tnote\t0\t1\t--5"), Some(4));
+        assert_eq!(rt; refusal(b"temps\tnote\t0\t1\t-"), Some(4));
+        assert_eq!(rt; refusal(b"temps\tnote\t0\t1\t"), Some(4));
+        assert_eq!(rt; refusal(b"temps\tsee\t0\t-1"), None);
+        assert_eq!(rt; refusal(b"temps\tsee\t0\tany"), None);
+        assert_eq!(rt; refusal(b"temps\tsee\t0\tnone"), Some(6));
+        assert_eq!(rt; refusal(b"temps\tsee\t0\t4294967295"), Some(4));
     }
 
     #[test]
     fn lengths(rt: HostRuntime) {
         let long = [b'x'; 65];
-        assert_eq!(rt; refusal(&long), 1);
-        assert_eq!(rt; refusal(&long[0..64]), 2);
+        assert_eq!(rt; refusal(&long), Some(1));
+        assert_eq!(rt; refusal(&long[0..64]), Some(2));
     }
 
     #[test]
@@ -272,6 +268,15 @@ mod tests {
     }
 
     #[test]
+    fn faults_in_words(rt: HostRuntime) -> Result<(), Fail> {
+        let long = LineFault::Long.to_string(rt.alloc())?;
+        assert!(rt; long.as_str() == "the line has more than 64 bytes");
+        let point = LineFault::Point.to_string(rt.alloc())?;
+        assert!(rt; point.as_str() == "a point is not a number from 0 to 255");
+        Ok(())
+    }
+
+    #[test]
     fn on_a_sheet(rt: HostRuntime) -> Result<(), Fail> {
         let node = new_node::<Leads>(0);
         let mut nodes = [node; 8];
@@ -300,8 +305,8 @@ mod tests {
             multiplier: 4,
             addend: 1,
         };
-        assert_eq!(rt; sheet.note(0, 1, twice.number()), Ok(()));
-        assert_eq!(rt; sheet.note(0, 1, fourfold.number()), Ok(()));
+        assert_eq!(rt; sheet.note(0, 1, twice), Ok(()));
+        assert_eq!(rt; sheet.note(0, 1, fourfold), Ok(()));
         let one = FarEnd::<Drums>::set_word(sheet.look(0)?);
         assert!(rt; one.as_slice() == b"1".as_slice());
         let five = FarEnd::<Drums>::set_word(sheet.look(1)?);

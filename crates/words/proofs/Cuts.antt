@@ -1,48 +1,14 @@
--- Parts, byte by byte.
-use Rattle.std.proofs.Common.{◌≡◌, ℕ, ◌+◌, ◌<◌, ◌≤◌, true, List, [], ◌∷◌, ◌++◌, length, get_or, take, drop, sym, refl, ap, ◌∙◌, append_assoc, append-nil}
-use Rattle.std.specs.List.{AllByRecursion}
-use Rattle.std.proofs.lemmas.List.{take_all, take_more, at_drop_more, at_drop_all}
-use Rattle.std.proofs.lemmas.Bool.{eq-eqb, ne_eqb, eqb-false, cond-true, cond-false, and_parts, not-true}
+-- Parts, cut off at the first place of a byte.
+use Rattle.std.proofs.Common.{◌≡◌, ℕ, zero, suc, ◌+◌, ◌<◌, ◌≤◌, true, false, List, [], ◌∷◌, ◌++◌, length, get_or, take, drop, Some, None, ◌==◌, sym, refl, ap, ◌∙◌, arith, take_all, ⊎_elim}
+use Rattle.std.specs.List.{AllByRecursion, position, position_or_len}
+use Rattle.std.proofs.lemmas.List.{take-append-drop}
+use Rattle.std.proofs.lemmas.List.Quantifiers.{position-Some}
+use Rattle.std.proofs.lemmas.List.Sums.{fails_before_first}
+use Rattle.std.proofs.Math.Seq.{drop-cons}
+use Rattle.std.proofs.lemmas.Bool.{eq-eqb, eqb-true, ne_eqb, eqb-false, cond-true, cond-false, and_parts, not-true, cases_lt}
+use Rattle.std.proofs.lemmas.Bool.Decides.{nat_tests}
 use Rattle.words.specs.Parts.{onto, parts}
 use Rattle.words.specs.Plain.{all_plain}
-
--- some bytes in front of the first part
-abbrev pub begun : List ℕ → List (List ℕ) → List (List ℕ)
-begun p [] = []
-begun p (f ∷ fs) = (p ++ f) ∷ fs
-
-begun_onto : (p : List ℕ) (b : ℕ) (fs : List (List ℕ)) → begun p (onto b fs) ≡ begun (p ++ (b ∷ [])) fs
-begun_onto p b [] = refl
-begun_onto p b (f ∷ fs) = ap (λ g. g ∷ fs) (sym (append_assoc p (b ∷ []) f))
-
-begun_nil : (fs : List (List ℕ)) → fs ≡ begun [] fs
-begun_nil [] = refl
-begun_nil (f ∷ fs) = refl
-
-module _ (c : ℕ) (s : List ℕ) where
-  -- c is not among the first i bytes
-  abbrev pub Uncut : ℕ → Type 0
-  Uncut i = parts c s ≡ begun (take i s) (parts c (drop i s))
-
-  pub starts : Uncut 0
-  starts = begun_nil (parts c s)
-
-  pub goes : (i : ℕ) → Uncut i → i < length s → (get_or s i 0 ≡ c → ⊥) → Uncut (i + 1)
-  goes i u h n =
-      u ∙ at_drop_more (λ l. begun (take i s) (parts c l)) s i 0 h
-      ∙ ap (begun (take i s)) (cond-false _ _ _ (ne_eqb (get_or s i 0) c n))
-      ∙ begun_onto (take i s) (get_or s i 0) (parts c (drop (i + 1) s))
-      ∙ ap (λ p. begun p (parts c (drop (i + 1) s))) (sym (take_more s i 0 h))
-
-  pub stops : (i : ℕ) → Uncut i → i < length s → get_or s i 0 ≡ c → parts c s ≡ take i s ∷ parts c (drop (i + 1) s)
-  stops i u h e =
-      u ∙ at_drop_more (λ l. begun (take i s) (parts c l)) s i 0 h
-      ∙ ap (begun (take i s)) (cond-true _ _ _ (eq-eqb (get_or s i 0) c e))
-      ∙ ap (λ p. p ∷ parts c (drop (i + 1) s)) (append-nil (take i s))
-
-  pub ends : (i : ℕ) → Uncut i → length s ≤ i → parts c s ≡ s ∷ []
-  ends i u h =
-      u ∙ at_drop_all (λ l. begun (take i s) (parts c l)) s i h ∙ ap (λ p. p ∷ []) (append-nil (take i s) ∙ take_all i s h)
 
 -- the byte c is not among those bytes
 abbrev pub Lacks : ℕ → List ℕ → Type 0
@@ -55,6 +21,26 @@ parts_before c (b ∷ p) rest h = cond-false _ _ _ (ne_eqb b c h.0) ∙ ap (onto
 pub parts_whole : (c : ℕ) (p : List ℕ) → Lacks c p → parts c p ≡ p ∷ []
 parts_whole c [] h = refl
 parts_whole c (b ∷ p) h = cond-false _ _ _ (ne_eqb b c h.0) ∙ ap (onto b) (parts_whole c p h.1)
+
+lacks_front : (c i : ℕ) (s : List ℕ) → ((k : ℕ) → k < i → (get_or s k 0 == c) ≡ false) → Lacks c (take i s)
+lacks_front c zero s h = tt
+lacks_front c (suc i) [] h = tt
+lacks_front c (suc i) (b ∷ s) h = (eqb-false b c (h 0 (omega arith)), lacks_front c i s (λ k lt. h (suc k) (omega arith)))
+
+pub parts_first : (c i : ℕ) (s : List ℕ) → position (λ b. b == c) s ≡ Some i → parts c s ≡ take i s ∷ parts c (drop (i + 1) s)
+parts_first c i s e =
+    let first = position-Some (λ b. b == c) s i 0 e in
+    let next : suc i ≡ i + 1 = omega arith in
+    let there : drop i s ≡ c ∷ drop (i + 1) s = rw (← next) (drop-cons s i 0 first.0 ∙ ap (λ b. b ∷ drop (suc i) s) (eqb-true _ c first.1)) in
+    ap (parts c) (sym (take-append-drop i s) ∙ ap (λ l. take i s ++ l) there)
+    ∙ parts_before c (take i s) (drop (i + 1) s) (lacks_front c i s first.2)
+
+pub parts_none : (c : ℕ) (s : List ℕ) → position (λ b. b == c) s ≡ None → parts c s ≡ s ∷ []
+parts_none c s e =
+    let past : length s ≤ position_or_len (λ b. b == c) s = ⊎_elim (λ lt. absurd (grind (arith, nat_tests))) (λ le. le) (cases_lt (position_or_len (λ b. b == c) s) (length s)) in
+    ap (parts c) (sym (take_all (length s) s (omega arith)))
+    ∙ parts_whole c (take (length s) s) (lacks_front c (length s) s (λ k lt. fails_before_first (λ b. b == c) s k 0 (omega (arith, past))))
+    ∙ ap (λ p. p ∷ []) (take_all (length s) s (omega arith))
 
 -- neither a tab nor a line feed stands in a word
 pub plain_lacks : (p : List ℕ) → all_plain p ≡ true → Lacks 9 p × Lacks 10 p

@@ -1,5 +1,5 @@
 -- Numbers and the fields that write them.
-use Rattle.std.proofs.Common.{◌≡◌, ℕ, zero, suc, ◌+◌, ◌-◌, ◌*◌, ◌^◌, ◌<◌, ◌≤◌, Bool, true, false, cond, List, length, get_or, take, Some, None, decimal, sym, refl, ap, ◌∙◌, subst, ⊎_elim, arith, length-take}
+use Rattle.std.proofs.Common.{◌≡◌, ℕ, zero, suc, ◌+◌, ◌-◌, ◌*◌, ◌^◌, ◌<◌, ◌≤◌, Bool, true, false, cond, List, length, get_or, take, Some, None, decimal, sym, refl, ap, ◌∙◌, subst, ⊎_elim, arith, length-take, Result, Ok, Err}
 use Rattle.std.proofs.lemmas.Fmt.{decimal_digit, decimal_nonempty, length-decimal-le, first_decimal, digits_decimal, digits_value-decimal, decimal-digits_value, decimal_injective}
 use Rattle.std.proofs.lemmas.Int.Digits.{digits_more, digits_value_more}
 use Rattle.std.proofs.lemmas.Slice.Eq.{bytes_eq-Decides}
@@ -12,6 +12,7 @@ use Rattle.std.specs.Str.Parse.{AllDigits, digits_value}
 use Rattle.std.specs.Int.{IsInRange}
 use Rattle.std.specs.Char.{digit_value}
 use Rattle.std.specs.Str.{bytes_eq}
+use Rattle.std.specs.Result.{OkIff, result_ok}
 use Rattle.words.proofs.Reading.{unread, first_with_word}
 use Rattle.words.specs.Numbers.{below, number_named}
 use Rattle.words.specs.Reading.{first_with}
@@ -109,15 +110,20 @@ module _ (field : List ℕ) where
   refused h = sym (absent_below 4294967296 (λ n lt e. h n lt (subst (λ f. Numeral f n) e (numeral_decimal n lt))))
 
   -- nor does a numeral that is too large
-  pub too_large : (n : ℕ) → Numeral field n → 4294967296 ≤ n → None ≡ number_named field
+  too_large : (n : ℕ) → Numeral field n → 4294967296 ≤ n → None ≡ number_named field
   too_large n m ge = refused (λ k lt w. omega (arith, m.counts, w.counts))
 
-  pub accepted : (n : ℕ) → Numeral field n → n < 4294967296 → Some n ≡ number_named field
+  accepted : (n : ℕ) → Numeral field n → n < 4294967296 → Some n ≡ number_named field
   unfolding number_named
   accepted n m lt =
       let short : digits_value 10 field < 10 ^ 10 = digits_value_short own field 10 m.digits m.short in
       let written : decimal (digits_value 10 field) ≡ field = decimal-digits_value own field m.digits m.some m.plain (omega arith) in
       sym (found_below 4294967296 n lt (omega arith) (ap decimal m.counts ∙ written))
+
+  -- which number a numeral names, if it is small enough
+  pub judged : {E : Type 0} (r : Result ℕ E) (n : ℕ) → Numeral field n → OkIff r (n < 4294967296) n → result_ok r ≡ number_named field
+  judged (Ok v) n m small = ap Some small.1 ∙ accepted n m small.0
+  judged (Err e) n m small = too_large n m (omega (arith, small))
 
   -- what a named number is
   pub named_number : (n : ℕ) → number_named field ≡ Some n → (decimal n ≡ field) × (n < 4294967296)

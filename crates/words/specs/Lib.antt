@@ -1,5 +1,5 @@
 pub mod Numbers
+pub mod Padded
 pub mod Parts
 pub mod Plain
 pub mod Reading
-pub mod Spelt

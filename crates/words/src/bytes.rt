@@ -1,4 +1,4 @@
-// Comparing bytes.
+// Comparing bytes: `==`, under a public name.
 ghost use Rattle.std.specs.Prelude.{◌≡◌};
 ghost use Rattle.std.specs.Str.{bytes_eq};
 

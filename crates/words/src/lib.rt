@@ -4,7 +4,6 @@
 mod bytes;
 mod numbers;
 mod parts;
-mod text;
 mod word;
 mod written;
 

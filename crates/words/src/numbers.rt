@@ -2,9 +2,8 @@
 ghost use Rattle.std.specs.Prelude.{◌≡◌};
 ghost use Rattle.words.specs.Numbers.{number_named};
 
-const LAST: u64 = 4294967295;
-
-// The number below 2 ^ 32 that the field writes, in digits without a leading zero.
+// The number below 2 ^ 32 that the field writes, in digits without a leading zero. Digit by digit: `from_utf8` and `parse`, which also
+// takes a plus sign and leading zeros, were tried, and make a line a third dearer.
 pub fn read_number(field: &[u8]) -> Option<u32>
     ensures { result ≡ number_named field.now }
 {
@@ -18,9 +17,5 @@ pub fn read_number(field: &[u8]) -> Option<u32>
         }
         number = number * 10 + u64::from(*b - b'0');
     }
-    if number <= LAST {
-        Some(number as u32)
-    } else {
-        None
-    }
+    u32::try_from(number).ok()
 }

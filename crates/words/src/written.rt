@@ -1,35 +1,26 @@
 // Writing numbers.
-ghost use Rattle.std.specs.Prelude.{◌≡◌, decimal};
+ghost use Rattle.std.specs.Prelude.{◌≡◌, decimal, take};
 ghost use Rattle.std.specs.Fmt.{signed_decimal};
-ghost use Rattle.words.specs.Spelt.{spelt};
 
 use crate::word::Word;
+use itoa::{Buffer, Integer};
+
+fn numeral<I: Integer>(n: I) -> Word
+    ensures { result ≡ take 32 (I.text n) }
+{
+    Word::of(Buffer::new().format(n).as_bytes())
+}
 
 impl Word {
     pub fn decimal(n: u32) -> Word
-        ensures { spelt result ≡ decimal n }
+        ensures { result ≡ decimal n }
     {
-        // The digits fill the array from its end.
-        let mut digits = [0; 10];
-        let mut at = 9;
-        let mut front = n;
-        while front >= 10 {
-            digits[at] = b'0' + (front % 10) as u8;
-            front /= 10;
-            at -= 1;
-        }
-        digits[at] = b'0' + front as u8;
-        Word::of(&digits[at..])
+        numeral(n)
     }
 
     pub fn signed(z: i32) -> Word
-        ensures { spelt result ≡ signed_decimal z }
+        ensures { result ≡ signed_decimal z }
     {
-        if z >= 0 {
-            return Word::decimal(z as u32);
-        }
-        let mut word = Word::of(b"-");
-        word.append(Word::decimal(z.unsigned_abs()).as_slice());
-        word
+        numeral(z)
     }
 }

@@ -1,7 +1,8 @@
-use Rattle.std.proofs.Common.{ap}
+use Rattle.std.proofs.Common.{ap, rules}
 use Rattle.kind.proofs.Lawful.{lawful}
 use Rattle.table.proofs.Found.{between_found}
 use Rattle.table.proofs.notes.meet.Goals as goal
+use Rattle.table.proofs.notes.meet.Goals.{then-first-second, else-first-second}
 
 pub returns : goal.returns
 returns g c =
@@ -10,5 +11,5 @@ returns g c =
       second = ap (λ w. w.reference) c.walk-second.ensures.walked;
       by = between_found g.K.Kind (lawful g.met.K.Kind) c.args.nodes.now c.walk-first.result c.walk-second.result _ _ c.args.g c.combine-by.result
           c.walk-first.ensures.walked c.walk-second.ensures.walked c.combine-by.ensures;
-      left_is = c.left_to_first-left.ensures;
+      left_is = elim c.if-first-second.branch [ then-first-second w ↦ search rules | else-first-second w ↦ search rules ];
     }

@@ -1,10 +1,13 @@
-use Rattle.std.proofs.Common.{◌∙◌}
+use Rattle.std.proofs.Common.{rules}
 use Rattle.kind.proofs.Lawful.{lawful}
-use Rattle.table.proofs.Found.{asked_found}
+use Rattle.table.proofs.Found.{told_met}
 use Rattle.table.proofs.questions.ask.Goals as goal
 
-pub returns : goal.returns
-returns g c =
-    c.ask_at.ensures
-    ∙ asked_found g.K.Kind (lawful g.met.K.Kind) c.args.nodes.now c.walk-first.result c.walk-second.result _ _ c.args.g c.combine-h.result
-    c.walk-first.ensures.walked c.walk-second.ensures.walked c.combine-h.ensures
+pub returns-then-is_empty : goal.returns-then-is_empty
+returns-then-is_empty g c = told_met g.K.Kind (lawful g.met.K.Kind) _ _ _ _ _ c.meet-meeting.ensures _ (search rules)
+
+pub returns-then-is_sure : goal.returns-then-is_sure
+returns-then-is_sure g c = told_met g.K.Kind (lawful g.met.K.Kind) _ _ _ _ _ c.meet-meeting.ensures _ (search rules)
+
+pub returns-else-is_sure : goal.returns-else-is_sure
+returns-else-is_sure g c = told_met g.K.Kind (lawful g.met.K.Kind) _ _ _ _ _ c.meet-meeting.ensures _ (search rules)

@@ -1,6 +1,6 @@
-use Rattle.std.proofs.Common.{arith, rules}
+use Rattle.std.proofs.Common.{◌∙◌, arith, rules}
 use Rattle.std.proofs.lemmas.Str.Parse.{digit_at}
-use Rattle.words.proofs.Numerals.{read_more, read_few, read_all, refused, accepted, too_large}
+use Rattle.words.proofs.Numerals.{read_more, read_few, read_all, refused, judged}
 use Rattle.words.proofs.numbers.read_number.Goals as goal
 
 pub returns-then-is_empty : goal.returns-then-is_empty
@@ -20,12 +20,7 @@ overflow_add-number c = omega (arith, read_few c.args.field.now _ _ c.loop-b.inv
 pub loop-b-preserved : goal.loop-b-preserved
 loop-b-preserved c = rw c.from.ensures (read_more c.args.field.now _ _ c.loop-b.invariant c.loop-b-test.true c.if-not-is_ascii_digit.ensures.cases)
 
-pub returns-then-number-le-LAST : goal.returns-then-number-le-LAST
-returns-then-number-le-LAST c =
+pub returns : goal.returns
+returns c =
     let m = read_all c.args.field.now _ _ c.loop-b.invariant c.loop-b-test.false (search rules) (search rules) (λ e. grind arith) in
-    accepted c.args.field.now _ m (omega arith)
-
-pub returns-else-number-le-LAST : goal.returns-else-number-le-LAST
-returns-else-number-le-LAST c =
-    let m = read_all c.args.field.now _ _ c.loop-b.invariant c.loop-b-test.false (search rules) (search rules) (λ e. grind arith) in
-    too_large c.args.field.now _ m (omega arith)
+    c.ok.ensures.value ∙ judged c.args.field.now _ _ m c.try_from.ensures

@@ -1,18 +1,10 @@
-use Rattle.std.proofs.Common.{◌≡◌, ◌-◌, arith}
+use Rattle.std.proofs.Common.{sym, ◌∙◌}
 use Rattle.std.proofs.lemmas.List.{take_rest}
-use Rattle.words.proofs.Cuts.{starts, goes, stops, ends}
+use Rattle.words.proofs.Cuts.{parts_first, parts_none}
 use Rattle.words.proofs.parts.cut.Goals as goal
 
-pub loop-i-init : goal.loop-i-init
-loop-i-init c = starts c.args.separator c.args.text.now
+pub returns-in-Some : goal.returns-in-Some
+returns-in-Some c = simp take_rest (parts_first c.args.separator _ c.args.text.now (sym c.place.ensures ∙ c.in-Some.is))
 
-pub loop-i-preserved : goal.loop-i-preserved
-loop-i-preserved c = goes c.args.separator c.args.text.now _ c.loop-i.invariant c.loop-i-test.true c.if-b-separator.false
-
-pub returns-then-b-separator : goal.returns-then-b-separator
-returns-then-b-separator c =
-    let whole : c.loop-i.i - 0 ≡ c.loop-i.i = omega arith in
-    simp (whole, take_rest) (stops c.args.separator c.args.text.now _ c.loop-i.invariant c.loop-i-test.true c.if-b-separator.true)
-
-pub returns : goal.returns
-returns c = ends c.args.separator c.args.text.now _ c.loop-i.invariant c.loop-i-test.false
+pub returns-in-None : goal.returns-in-None
+returns-in-None c = parts_none c.args.separator c.args.text.now (sym c.place.ensures ∙ c.in-None.is)

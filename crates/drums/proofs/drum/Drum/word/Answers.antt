@@ -1,8 +1,9 @@
-use Rattle.std.proofs.Common.{◌∙◌}
-use Rattle.drums.specs.DrumWordsLemmas.{with_bar_written}
+use Rattle.drums.specs.DrumWordsLemmas.{with_bar_written, number_word}
 use Rattle.drums.proofs.drum.Drum.word.Goals as goal
 
 pub returns : goal.returns
 returns c =
-    let drum = c.args.self in
-    with_bar_written _ _ drum.low drum.small _ _ _ _ c.decimal-word.ensures c.append.ensures (c.as_slice.ensures ∙ c.decimal.ensures) c.append-2.ensures
+    let range = c.self.invariant in
+    let written = with_bar_written _ _ range.low range.small in
+    let is = number_word _ _ range in
+    cc

@@ -1,19 +1,15 @@
-use Rattle.std.proofs.Common.{rules}
-use Rattle.page.proofs.Added.{past_with, blank_with, view_with}
+use Rattle.std.proofs.Common.{Ok, rules}
+use Rattle.page.proofs.Added.{place_with, blank_with, view_with}
 use Rattle.page.proofs.page.Page.add.Goals as goal
 
-pub returns : goal.returns
-returns c =
-    let bytes = c.args.self.now.bytes.now in
-    let mark = c.args.self.now.mark in
-    let text = c.args.text.now in
-    let done = c.put_text-done.ensures in
-    record {
-      answer = done.answer;
-      bytes = done.bytes;
-      mark = done.mark;
-      view = view_with bytes mark text _ _ _ done.answer done.bytes done.mark;
-      blank = λ k. rw (done.bytes, done.mark) (blank_with bytes mark text k);
-      past = rw done.bytes (past_with bytes mark text);
-      lent = search rules;
-    }
+pub returns-in_err-write-clause-place : goal.returns-in_err-write-clause-place
+returns-in_err-write-clause-place c = place_with _ _ c.args.self.now.mark c.args.text.now (search rules) (search rules)
+
+pub returns-clause-view : goal.returns-clause-view
+returns-clause-view c = view_with _ _ c.args.text.now (Ok tt) _ _ (search rules) (search rules) (search rules)
+
+pub returns-clause-blank : goal.returns-clause-blank
+returns-clause-blank c = blank_with _ _ c.args.text.now _ _ (search rules) (search rules)
+
+pub returns-clause-place : goal.returns-clause-place
+returns-clause-place c = place_with _ _ c.args.self.now.mark c.args.text.now (search rules) (search rules)

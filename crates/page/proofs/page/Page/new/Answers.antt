@@ -1,13 +1,6 @@
-use Rattle.std.proofs.Common.{arith, rules}
-use Rattle.page.proofs.Blanks.{blank_wiped}
-use Rattle.page.proofs.Wipes.{past_wiped}
+use Rattle.std.proofs.Common.{refl}
+use Rattle.page.proofs.Emptying.{emptied}
 use Rattle.page.proofs.page.Page.new.Goals as goal
 
 pub returns : goal.returns
-returns c = record {
-  bytes = search rules;
-  mark = search rules;
-  blank = rw c.wipe.ensures (blank_wiped c.args.bytes.now 0 (omega arith));
-  past = rw c.wipe.ensures (past_wiped c.args.bytes.now 0);
-  lent = search rules;
-}
+returns c = emptied _ _ c.wipe.ensures refl refl

@@ -1,9 +1,6 @@
-use Rattle.std.proofs.Common.{◌≡◌, ◌-◌, min, length, take, ap, ◌∙◌, arith}
-use Rattle.words.proofs.Lists.{take_min}
+use Rattle.std.proofs.Common.{ap, ◌∙◌}
+use Rattle.sheet.proofs.Used.{front_or_all}
 use Rattle.sheet.proofs.sheet.Sheet.table.Goals as goal
 
 pub returns : goal.returns
-returns g c =
-    let nodes = c.args.self.now.nodes.now in
-    let used : c.min-n.result - 0 ≡ min (length nodes) 256 = omega (arith, c.min-n.ensures) in
-    ap (λ n. take n nodes) used ∙ take_min 256 nodes
+returns g c = ap (λ r. r.now) c.unwrap_or.ensures ∙ front_or_all 256 _ c.get.result c.get.ensures.lookup.0

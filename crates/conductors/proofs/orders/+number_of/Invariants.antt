@@ -1,4 +1,0 @@
-use Rattle.conductors.proofs.orders.+number_of.Given as goal
-
-abbrev pub decreases-number_of : goal.decreases-number_of
-decreases-number_of l = l.n
