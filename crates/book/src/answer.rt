@@ -1,5 +1,5 @@
 // Answering a line on its sheet.
-ghost use Rattle.std.specs.Prelude.{Some};
+ghost use Rattle.std.specs.Prelude.{◌≡◌, Some};
 ghost use Rattle.sheet.specs.Frame.{Keeps, RefusedUnchanged};
 ghost use Rattle.sheet.specs.Step.{Step};
 ghost use Rattle.sheet.specs.View.{view};
@@ -23,14 +23,23 @@ pub enum Reply {
     Answered(Answer),
 }
 
+impl Reply {
+    // As it is printed.
+    pub(crate) fn text(self) -> &'static str
+        ensures { result.now ≡ told (reply_outcome self) }
+    {
+        match self {
+            Reply::Accepted => "ok",
+            Reply::Answered(answer) => answer.word(),
+        }
+    }
+}
+
 impl fmt::Display for Reply {
     ghost output = { λ reply. Some (told (reply_outcome reply)) };
 
     fn fmt<W: fmt::Write>(&self, f: &mut fmt::Formatter<W>) -> fmt::Result {
-        match self {
-            Reply::Accepted => f.write_str("ok"),
-            Reply::Answered(answer) => write!(f, "{answer}"),
-        }
+        f.write_str(self.text())
     }
 }
 

@@ -5,10 +5,11 @@ mod desk;
 
 use book::{Book, Memory};
 use desk::Desk;
+use std::alloc::AllocError;
 use std::io::{BufRead, BufReader, Read};
 
 // No more of the input is read.
-const MOST: u64 = 65536;
+const MOST: usize = 65536;
 
 fn main(rt: HostRuntime) -> anyhow::Result<()> {
     run(&rt)
@@ -18,7 +19,9 @@ fn main(rt: HostRuntime) -> anyhow::Result<()> {
 fn run(rt: &HostRuntime) -> anyhow::Result<()> {
     let mut memory = Memory::new();
     let mut desk = Desk::new(Book::open(&mut memory));
-    let mut input = BufReader::new(rt.alloc(), rt.stdin().take(MOST))?;
+    // There is room for all of it, so that one read takes all that has come: whoever writes before reading is not held up.
+    let reader = rt.stdin().take(MOST as u64);
+    let mut input = BufReader::with_capacity(rt.alloc(), MOST, reader).map_err(|_| AllocError)?;
     let mut line = Vec::new(rt.alloc());
     let mut out = Vec::new(rt.alloc());
     // Each turn takes a byte at least. `read_until` would be shorter, and takes a sixth more instructions.

@@ -1,11 +1,11 @@
 -- Sets as bits: what belongs to a set, and how many.
 use Rattle.std.specs.Prelude.{◌≡◌, ℕ, zero, suc, ◌+◌, ◌*◌, ◌/◌, ◌%◌, ◌^◌, ◌<◌, ◌≤◌, Bool, true, false, cond, ◌&&◌, ◌==◌, nat_eq, refl}
-use Rattle.std.proofs.Common.{min, sym, ap, ◌∙◌, ⊎_elim, mod-lt, pow-suc, arith}
+use Rattle.std.proofs.Common.{sym, ap, ◌∙◌, ⊎_elim, mod-lt, pow-suc, arith}
 use Rattle.std.proofs.Math.Nat.{mod-one}
 use Rattle.std.specs.Int.Bits.{bit_and}
 use Rattle.std.specs.Int.Count.{ones}
-use Rattle.std.proofs.lemmas.Nat.{pow_pos, mod-pow-add, div-add-mod', shr_high, ones_cat, ones-le}
-use Rattle.std.proofs.lemmas.Nat.Bits.{bit_at_cat_low, bit_at_and, bit_at-lt}
+use Rattle.std.proofs.lemmas.Nat.{pow_pos, mod-pow-add, div-add-mod', shr_high, and_shr, and_mod, ones_cat, ones-le}
+use Rattle.std.proofs.lemmas.Nat.Bits.{bit_at_cat_low}
 use Rattle.std.proofs.lemmas.Bool.Decides.{nat_tests}
 use Rattle.std.proofs.lemmas.Bool.{cases_eq, eqb-true, eq-eqb, and_parts}
 use Rattle.kind.specs.Tally.{members, Tallied}
@@ -65,12 +65,19 @@ unfolding mask
 full_mask zero = refl
 full_mask (suc n) = omega (arith, pow-suc 2 n, full_mask n, pow_pos n)
 
-both_tests : (x y : ℕ) → x < 2 → y < 2 → (min x y == 1) ≡ (x == 1 && y == 1)
-both_tests x y h k = grind (arith, nat_tests)
+both_tests : (x y : ℕ) → x < 2 → y < 2 → (bit_and x y == 1) ≡ (x == 1 && y == 1)
+both_tests zero zero h k = refl
+both_tests zero (suc zero) h k = refl
+both_tests (suc zero) zero h k = refl
+both_tests (suc zero) (suc zero) h k = refl
+both_tests zero (suc (suc y)) h k = absurd (omega arith)
+both_tests (suc zero) (suc (suc y)) h k = absurd (omega arith)
+both_tests (suc (suc x)) y h k = absurd (omega arith)
 
 pub bit_and_lem : (s t v : ℕ) → bit (bit_and s t) v ≡ (bit s v && bit t v)
 bit_and_lem s t v =
-    ap (λ x. nat_eq x 1) (bit_at_and s t v) ∙ both_tests (s / 2 ^ v % 2) (t / 2 ^ v % 2) (bit_at-lt s v) (bit_at-lt t v)
+    ap (λ x. nat_eq x 1) (ap (λ x. x % 2) (and_shr s t v) ∙ and_mod (s / 2 ^ v) (t / 2 ^ v) 1)
+    ∙ both_tests (s / 2 ^ v % 2) (t / 2 ^ v % 2) (mod-lt _ (omega arith)) (mod-lt _ (omega arith))
 
 ones_mask : (p : ℕ → Bool) (n : ℕ) → ones (mask p n) ≡ members p n
 unfolding mask members ones

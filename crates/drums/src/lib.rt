@@ -26,8 +26,9 @@ pub use drum::Drum;
 
 pub struct Drums;
 
+// A relation is a number, which stands for the drum relation made from it.
 impl Kind for Drums {
-    type Relation = Drum;
+    type Relation = u32;
 
     type Set = Pick;
 
@@ -119,19 +120,16 @@ impl Kind for Drums {
 
     ghost label_labelled = { pick_label_labelled values };
 
-    fn identity() -> Drum {
-        Drum {
-            multiplier: 1,
-            addend: 0,
-        }
+    fn identity() -> u32 {
+        0
     }
 
-    fn after(g: Drum, h: Drum) -> Drum {
-        g.after(h)
+    fn after(g: u32, h: u32) -> u32 {
+        Drum::of(g).after(Drum::of(h)).number()
     }
 
-    fn inverse(g: Drum) -> Drum {
-        g.inverse()
+    fn inverse(g: u32) -> u32 {
+        Drum::of(g).inverse().number()
     }
 
     // The trait has relations and sets together, so what temps share with drums is a call of `Pick` in each.
@@ -143,12 +141,12 @@ impl Kind for Drums {
         s.common(t, LAST)
     }
 
-    fn moved(g: Drum, s: Pick) -> Pick {
-        s.map(|v| g.value_at(v))
+    fn moved(g: u32, s: Pick) -> Pick {
+        s.map(|v| Drum::of(g).value_at(v))
     }
 
-    fn still(g: Drum) -> Pick {
-        g.still()
+    fn still(g: u32) -> Pick {
+        Drum::of(g).still()
     }
 
     fn within(s: Pick, t: Pick) -> bool {
@@ -159,16 +157,17 @@ impl Kind for Drums {
         s.tally(LAST)
     }
 
-    fn read_relation(field: &[u8]) -> Result<Drum, WordFault> {
-        read_drum(field).ok_or(WordFault::NotAWord)
+    fn read_relation(field: &[u8]) -> Result<u32, WordFault> {
+        let drum = read_drum(field).ok_or(WordFault::NotAWord)?;
+        Ok(drum.number())
     }
 
     fn read_set(field: &[u8]) -> Result<Pick, WordFault> {
         Pick::read(field, read_value(field)).ok_or(WordFault::NotAWord)
     }
 
-    fn relation_word(g: Drum) -> Word {
-        g.word()
+    fn relation_word(g: u32) -> Word {
+        Drum::of(g).word()
     }
 
     fn set_word(s: Pick) -> Word {

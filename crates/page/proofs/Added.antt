@@ -15,7 +15,7 @@ module _ (bytes : List ℕ) (mark : ℕ) (text : List ℕ) where
   room : has_room bytes mark text ≡ true → mark + length text ≤ limit bytes
   room e = leb-true (mark + length text) (limit bytes) e
 
-  past_with : drop 65536 (bytes_with bytes mark text) ≡ drop 65536 bytes
+  pub past_with : drop 65536 (bytes_with bytes mark text) ≡ drop 65536 bytes
   past_with = split (has_room bytes mark text) refl
     where
       split : (b : Bool) → has_room bytes mark text ≡ b → drop 65536 (cond b (overlaid bytes mark text) (wiped bytes mark)) ≡ drop 65536 bytes

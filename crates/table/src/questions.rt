@@ -16,15 +16,24 @@ pub enum Answer {
     Open,
 }
 
+impl Answer {
+    // As it is printed.
+    pub fn word(self) -> &'static str
+        ensures { result.now ≡ answer_word self }
+    {
+        match self {
+            Answer::Holds => "holds",
+            Answer::Barred => "barred",
+            Answer::Open => "open",
+        }
+    }
+}
+
 impl fmt::Display for Answer {
     ghost output = { λ answer. Some (answer_word answer) };
 
     fn fmt<W: fmt::Write>(&self, f: &mut fmt::Formatter<W>) -> fmt::Result {
-        f.write_str(match self {
-            Answer::Holds => "holds",
-            Answer::Barred => "barred",
-            Answer::Open => "open",
-        })
+        f.write_str(self.word())
     }
 }
 

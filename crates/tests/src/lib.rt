@@ -305,8 +305,8 @@ mod tests {
             multiplier: 4,
             addend: 1,
         };
-        assert_eq!(rt; sheet.note(0, 1, twice), Ok(()));
-        assert_eq!(rt; sheet.note(0, 1, fourfold), Ok(()));
+        assert_eq!(rt; sheet.note(0, 1, twice.number()), Ok(()));
+        assert_eq!(rt; sheet.note(0, 1, fourfold.number()), Ok(()));
         let one = FarEnd::<Drums>::set_word(sheet.look(0)?);
         assert!(rt; one.as_slice() == b"1".as_slice());
         let five = FarEnd::<Drums>::set_word(sheet.look(1)?);

@@ -110,10 +110,10 @@ module _ (field : List ℕ) where
   refused h = sym (absent_below 4294967296 (λ n lt e. h n lt (subst (λ f. Numeral f n) e (numeral_decimal n lt))))
 
   -- nor does a numeral that is too large
-  too_large : (n : ℕ) → Numeral field n → 4294967296 ≤ n → None ≡ number_named field
+  pub too_large : (n : ℕ) → Numeral field n → 4294967296 ≤ n → None ≡ number_named field
   too_large n m ge = refused (λ k lt w. omega (arith, m.counts, w.counts))
 
-  accepted : (n : ℕ) → Numeral field n → n < 4294967296 → Some n ≡ number_named field
+  pub accepted : (n : ℕ) → Numeral field n → n < 4294967296 → Some n ≡ number_named field
   unfolding number_named
   accepted n m lt =
       let short : digits_value 10 field < 10 ^ 10 = digits_value_short own field 10 m.digits m.short in

@@ -1,11 +1,28 @@
--- A text written behind a word, over the zeros there.
+-- A text put into bytes over zeros: at the start, and behind a word.
 use Rattle.std.proofs.Common.{◌≡◌, ℕ, ◌+◌, ◌-◌, min, List, ◌++◌, length, take, drop, replicate, sym, ap, ◌∙◌, arith, length-take, length-append, length-drop}
-use Rattle.std.proofs.lemmas.List.{take-append-drop, drop-drop, drop-replicate}
+use Rattle.std.proofs.lemmas.List.{take-append-drop, take_at, drop_at, drop-drop, drop-replicate}
 use Rattle.std.proofs.Math.Seq.{take-append-add}
 use Rattle.std.proofs.lemmas.Slice.{take-put_mid, drop-put_mid}
 use borrow.Rule.Slice.PartMut.{put_mid}
 use Rattle.words.proofs.Lists.{take_min}
 use Rattle.words.specs.Padded.{Padded}
+
+module _ (text written : List ℕ) (len : ℕ) (m : len ≡ min (length text) 32) (w : written ≡ take len text) where
+  abbrev blank : List ℕ
+  blank = replicate 32 0
+
+  long : length written ≡ len
+  long = ap length w ∙ length-take len text ∙ omega (arith, m)
+
+  pub first_put : Padded (written ++ drop len blank) len
+  first_put = record {
+    fits = omega (arith, m);
+    size = length-append written _ ∙ omega (arith, m, long, length-drop len blank);
+    zeros = drop_at written _ len long ∙ drop-replicate len 32 0;
+  }
+
+  pub spelt_first : take len (written ++ drop len blank) ≡ take 32 text
+  spelt_first = take_at written _ len long ∙ w ∙ ap (λ n. take n text) m ∙ take_min 32 text
 
 module _ (bytes text written : List ℕ) (len more : ℕ) (p : Padded bytes len) (m : more ≡ min (length text) (32 - len)) (w : written ≡ take more text) where
   abbrev after : List ℕ
