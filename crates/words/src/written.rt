@@ -3,13 +3,22 @@ ghost use Rattle.std.specs.Prelude.{◌≡◌, decimal};
 ghost use Rattle.std.specs.Fmt.{signed_decimal};
 
 use crate::word::Word;
-use itoa::Buffer;
 
 impl Word {
     pub fn decimal(n: u32) -> Word
         ensures { result ≡ decimal n }
     {
-        Word::of(Buffer::new().format(n).as_bytes())
+        // The digits fill the array from its end.
+        let mut digits = [0; 10];
+        let mut at = 9;
+        let mut front = n;
+        while front >= 10 {
+            digits[at] = b'0' + (front % 10) as u8;
+            front /= 10;
+            at -= 1;
+        }
+        digits[at] = b'0' + front as u8;
+        Word::of(&digits[at..])
     }
 
     pub fn signed(z: i32) -> Word
