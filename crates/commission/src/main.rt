@@ -19,7 +19,8 @@ fn main(rt: HostRuntime) -> anyhow::Result<()> {
 fn run(rt: &HostRuntime) -> anyhow::Result<()> {
     let mut memory = Memory::new();
     let mut desk = Desk::new(Book::open(&mut memory));
-    // There is room for all of it, so that one read takes all that has come: whoever writes before reading is not held up.
+    // With room for all of it one read takes all that has come. A smaller buffer would be answered in pieces, and whoever
+    // still writes while it is printed, and reads later, could wait for ever.
     let reader = rt.stdin().take(MOST as u64);
     let mut input = BufReader::with_capacity(rt.alloc(), MOST, reader).map_err(|_| AllocError)?;
     let mut line = Vec::new(rt.alloc());
